@@ -1,0 +1,9 @@
+pub mod Laws
+pub mod Answers
+pub mod Bracketings
+pub mod PathTags
+pub mod Packing
+pub mod DrawTags
+pub mod Clips
+pub mod Meeting
+pub mod Worked
