@@ -42,7 +42,7 @@ pub impl Monoid for ClipBic as ClipDepth {
         } else if tag.0 == DrawTag::END_CLIP.0 {
             ClipBic { a: 1, b: 0 }
         } else {
-            ClipBic { a: 0, b: 0 }
+            ClipDepth::identity()
         }
     }
 
