@@ -128,5 +128,6 @@ pub packs : (ts : List PathTag) (ws : List ℕ) → ws ≡ packed ts → Packs t
 packs ts ws e = record {
   words = e;
   few = ap length e ∙ length-packed ts;
-  counts = λ k. packed-counts (ts ++ replicate k blank) ∙ blanks-after ts k;
+  counts = ap (reduced none plus from-word) e ∙ packed-counts ts;
+  filled = λ k. packed-counts (ts ++ replicate k blank) ∙ blanks-after ts k;
 }

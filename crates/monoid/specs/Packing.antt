@@ -31,4 +31,5 @@ packed (a ∷ b ∷ c ∷ d ∷ rest) = word a b c d ∷ packed rest
 pub record Packs (ts : List PathTag) (ws : List ℕ) : Type 0 where
   pub words : ws ≡ packed ts
   pub few : length ws ≡ (length ts + 3) / 4
-  pub counts : (k : ℕ) → reduced none plus from-word (packed (ts ++ replicate k blank)) ≡ reduced none plus from-tag ts
+  pub counts : reduced none plus from-word ws ≡ reduced none plus from-tag ts
+  pub filled : (k : ℕ) → reduced none plus from-word (packed (ts ++ replicate k blank)) ≡ reduced none plus from-tag ts
