@@ -126,3 +126,38 @@ pub fn read_sheet(heap: Global, text: &str) -> Result<Sheet, InputError> {
         draw_tags,
     })
 }
+
+#[cfg(test)]
+mod tests {
+    use super::*;
+    use std::test::*;
+
+    // The line's number and what is wrong there, or how many tags there are.
+    fn read(heap: Global, text: &str) -> Result<(usize, usize), (usize, u8)> {
+        match read_sheet(heap, text) {
+            Ok(sheet) => Ok((sheet.path_tags.len(), sheet.draw_tags.len())),
+            Err(InputError::Line(line, Problem::UnknownLine)) => Err((line, 0)),
+            Err(InputError::Line(line, Problem::NotAByte)) => Err((line, 1)),
+            Err(InputError::Line(line, Problem::NotAWord)) => Err((line, 2)),
+            Err(InputError::NoMemory) => Err((0, 3)),
+        }
+    }
+
+    #[test]
+    fn lines(rt: LibcRuntime) -> Result<(), Fail> {
+        let heap = rt.alloc();
+        check_eq(read(heap, ""), Ok((0, 0)))?;
+        check_eq(
+            read(
+                heap,
+                "path_tags: 20 40\n\n# note\n  draw_tags: 2D4\npath_tags: 9",
+            ),
+            Ok((3, 1)),
+        )?;
+        check_eq(read(heap, "path_tags: 20\npath_tag: 40"), Err((2, 0)))?;
+        check_eq(read(heap, "path_tags: 20 100"), Err((1, 1)))?;
+        check_eq(read(heap, "\n\npath_tags: 20 -1"), Err((3, 1)))?;
+        check_eq(read(heap, "draw_tags: 123456789"), Err((1, 2)))?;
+        check_eq(read(heap, "draw_tags: +44"), Err((1, 2)))
+    }
+}

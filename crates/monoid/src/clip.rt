@@ -12,6 +12,7 @@ use crate::sum;
 
 // Pops `a`, then pushes `b`: the bicyclic semigroup.
 #[derive(Clone, Copy)]
+#[repr(C)]
 pub struct ClipBic {
     pub a: u32,
     pub b: u32,

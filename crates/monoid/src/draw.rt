@@ -8,6 +8,7 @@ use crate::sum;
 
 // One entry of the draw tag stream. Its bits say what it counts.
 #[derive(Clone, Copy)]
+#[repr(C)]
 pub struct DrawTag(pub u32);
 
 impl DrawTag {
@@ -32,6 +33,7 @@ impl DrawTag {
 
 // What some draw tags count.
 #[derive(Clone, Copy)]
+#[repr(C)]
 pub struct DrawMonoid {
     // Paths.
     pub path_ix: u32,

@@ -14,10 +14,12 @@ use std::alloc::Global;
 
 // How many points a segment has past the one it starts from: 0 for a tag that is no segment.
 #[derive(Clone, Copy)]
+#[repr(C)]
 pub struct PathSegmentType(pub u8);
 
 // One entry of the path tag stream.
 #[derive(Clone, Copy)]
+#[repr(C)]
 pub struct PathTag(pub u8);
 
 impl PathTag {
@@ -78,6 +80,7 @@ impl PathTag {
 
 // What some path tags count: where the next one finds its transform, points, style and path.
 #[derive(Clone, Copy)]
+#[repr(C)]
 pub struct PathMonoid {
     // Transforms.
     pub trans_ix: u32,
