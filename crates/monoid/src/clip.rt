@@ -10,7 +10,7 @@ use crate::Monoid;
 use crate::draw::DrawTag;
 use crate::sum;
 
-// Pops `a`, then pushes `b`: the bicyclic semigroup.
+/// Pops `a`, then pushes `b`: the bicyclic semigroup.
 #[derive(Clone, Copy)]
 #[repr(C)]
 pub struct ClipBic {
@@ -66,7 +66,7 @@ pub impl Monoid for ClipBic as ClipDepth {
     }
 }
 
-// The place of the begin that the end at place `end` meets: none where no clip is open there, or no end is there.
+/// The place of the begin that the end at place `end` meets: none where no clip is open there, or no end is there.
 pub fn begin_met(tags: &[DrawTag], end: usize) -> Option<usize>
     ensures met { λ r. ⌜ r ≡ met-by (now (tags .entry)) end ⌝ }
     ensures reduces { λ r. ⌜ Meets-by-reduction (now (tags .entry)) end r ⌝ }

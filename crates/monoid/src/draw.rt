@@ -6,24 +6,24 @@ use crate::CountError;
 use crate::Monoid;
 use crate::sum;
 
-// One entry of the draw tag stream. Its bits say what it counts.
+/// One entry of the draw tag stream. Its bits say what it counts.
 #[derive(Clone, Copy)]
 #[repr(C)]
 pub struct DrawTag(pub u32);
 
 impl DrawTag {
-    // Nothing is drawn.
+    /// Nothing is drawn.
     pub const NOP: DrawTag = DrawTag(0);
-    // A plain colour.
+    /// A plain colour.
     pub const COLOR: DrawTag = DrawTag(0x44);
-    // A blurred rounded rectangle.
+    /// A blurred rounded rectangle.
     pub const BLUR_RECT: DrawTag = DrawTag(0x2d4);
-    // A clip begins.
+    /// A clip begins.
     pub const BEGIN_CLIP: DrawTag = DrawTag(0x49);
-    // A clip ends.
+    /// A clip ends.
     pub const END_CLIP: DrawTag = DrawTag(0x21);
 
-    // How many words of the engine's info buffer the command takes.
+    /// How many words of the engine's info buffer the command takes.
     pub fn info_size(self) -> u32
         ensures { λ r. ⌜ r ≡ info-size self ⌝ }
     {
@@ -31,17 +31,17 @@ impl DrawTag {
     }
 }
 
-// What some draw tags count.
+/// What some draw tags count.
 #[derive(Clone, Copy)]
 #[repr(C)]
 pub struct DrawMonoid {
-    // Paths.
+    /// Paths.
     pub path_ix: u32,
-    // Clip commands.
+    /// Clip commands.
     pub clip_ix: u32,
-    // Words of draw data.
+    /// Words of draw data.
     pub scene_offset: u32,
-    // Words of the engine's info buffer.
+    /// Words of the engine's info buffer.
     pub info_offset: u32,
 }
 

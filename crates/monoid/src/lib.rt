@@ -12,19 +12,19 @@ pub mod path;
 pub mod reduction;
 pub mod worked;
 
-// Why a record or a table was not made.
+/// Why a record or a table was not made.
 #[derive(Clone, Copy)]
 pub enum CountError {
-    // The combined counts do not fit the record.
+    /// The combined counts do not fit the record.
     DoesNotFit,
-    // The table has fewer rows than there are sources.
+    /// The table has fewer rows than there are sources.
     ShortTable,
-    // There are more than `MAX_SOURCES` sources.
+    /// There are more than `MAX_SOURCES` sources.
     TooManySources,
 }
 
 impl CountError {
-    // The refusal's number.
+    /// The refusal's number.
     pub fn number(self) -> u32
         ensures { λ r. ⌜ r ≡ number self ⌝ }
     {
@@ -36,12 +36,12 @@ impl CountError {
     }
 }
 
-// The most sources that one reduction or table takes.
+/// The most sources that one reduction or table takes.
 pub const MAX_SOURCES: usize = 1_048_576;
 
-// A kind of record that counts sources and can be combined.
+/// A kind of record that counts sources and can be combined.
 pub trait Monoid: Copy {
-    // What a record is made from.
+    /// What a record is made from.
     type SourceValue: Copy;
 
     // what a record stands for: numbers without bound
@@ -62,19 +62,19 @@ pub trait Monoid: Copy {
 
     law few: { (ss : List Self·SourceValue) → length ss ≤ most → Fits (reduced empty op source ss) };
 
-    // The record of no source.
+    /// The record of no source.
     fn identity() -> Self
         ensures { λ r. ⌜ meaning r ≡ empty ⌝ };
 
-    // The record of one source.
+    /// The record of one source.
     fn new(value: Self::SourceValue) -> Self
         ensures { λ r. ⌜ meaning r ≡ source value ⌝ };
 
-    // This record and then the other, or the refusal where the result does not fit.
+    /// This record and then the other, or the refusal where the result does not fit.
     fn combine(&self, other: &Self) -> Result<Self, CountError>
         ensures { λ r. ⌜ Combined meaning Fits (op (meaning (now (self .entry))) (meaning (now (other .entry)))) r ⌝ };
 
-    // This record and then the other, where the result is known to fit.
+    /// This record and then the other, where the result is known to fit.
     fn combine_fitting(&self, other: &Self) -> Self
         requires { ⌜ Fits (op (meaning (now self)) (meaning (now other))) ⌝ }
         ensures { λ r. ⌜ meaning r ≡ op (meaning (now (self .entry))) (meaning (now (other .entry))) ⌝ };

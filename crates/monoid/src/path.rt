@@ -12,65 +12,65 @@ use crate::sum;
 use std::alloc::AllocError;
 use std::alloc::Global;
 
-// How many points a segment has past the one it starts from: 0 for a tag that is no segment.
+/// How many points a segment has past the one it starts from: 0 for a tag that is no segment.
 #[derive(Clone, Copy)]
 #[repr(C)]
 pub struct PathSegmentType(pub u8);
 
-// One entry of the path tag stream.
+/// One entry of the path tag stream.
 #[derive(Clone, Copy)]
 #[repr(C)]
 pub struct PathTag(pub u8);
 
 impl PathTag {
-    // A line of f32 coordinates.
+    /// A line of f32 coordinates.
     pub const LINE_TO_F32: PathTag = PathTag(0x9);
-    // A quadratic of f32 coordinates.
+    /// A quadratic of f32 coordinates.
     pub const QUAD_TO_F32: PathTag = PathTag(0xa);
-    // A cubic of f32 coordinates.
+    /// A cubic of f32 coordinates.
     pub const CUBIC_TO_F32: PathTag = PathTag(0xb);
-    // A transform begins to hold.
+    /// A transform begins to hold.
     pub const TRANSFORM: PathTag = PathTag(0x20);
-    // A path ends.
+    /// A path ends.
     pub const PATH: PathTag = PathTag(0x10);
-    // A style begins to hold.
+    /// A style begins to hold.
     pub const STYLE: PathTag = PathTag(0x40);
-    // Marks the last segment of a subpath.
+    /// Marks the last segment of a subpath.
     pub const SUBPATH_END_BIT: u8 = 0x4;
     // Marks coordinates of 32 bits.
     const F32_BIT: u8 = 0x8;
     // Holds the segment's type.
     const SEGMENT_MASK: u8 = 0x3;
 
-    // Whether the tag is a segment's.
+    /// Whether the tag is a segment's.
     pub fn is_path_segment(self) -> bool
         ensures { λ r. ⌜ r ≡ is-segment self ⌝ }
     {
         self.path_segment_type().0 != 0
     }
 
-    // Whether the tag's coordinates are f32 numbers.
+    /// Whether the tag's coordinates are f32 numbers.
     pub fn is_f32(self) -> bool
         ensures { λ r. ⌜ r ≡ is-f32 self ⌝ }
     {
         self.0 & PathTag::F32_BIT != 0
     }
 
-    // Whether the tag ends a subpath.
+    /// Whether the tag ends a subpath.
     pub fn is_subpath_end(self) -> bool
         ensures { λ r. ⌜ r ≡ ends-subpath self ⌝ }
     {
         self.0 & PathTag::SUBPATH_END_BIT != 0
     }
 
-    // Makes the tag end its subpath.
+    /// Makes the tag end its subpath.
     pub fn set_subpath_end(&mut self)
         ensures { λ _. ⌜ now (self .exit) ≡ ended (now (self .entry)) ⌝ }
     {
         self.0 |= PathTag::SUBPATH_END_BIT;
     }
 
-    // The type of the segment.
+    /// The type of the segment.
     pub fn path_segment_type(self) -> PathSegmentType
         ensures { λ r. ⌜ r .0 ≡ segment-type self ⌝ }
     {
@@ -78,19 +78,19 @@ impl PathTag {
     }
 }
 
-// What some path tags count: where the next one finds its transform, points, style and path.
+/// What some path tags count: where the next one finds its transform, points, style and path.
 #[derive(Clone, Copy)]
 #[repr(C)]
 pub struct PathMonoid {
-    // Transforms.
+    /// Transforms.
     pub trans_ix: u32,
-    // Segments.
+    /// Segments.
     pub pathseg_ix: u32,
-    // Words of path data.
+    /// Words of path data.
     pub pathseg_offset: u32,
-    // Words of styles, two for each.
+    /// Words of styles, two for each.
     pub style_ix: u32,
-    // Paths.
+    /// Paths.
     pub path_ix: u32,
 }
 
@@ -184,7 +184,7 @@ fn last_word(rest: &[PathTag]) -> Option<u32>
     }
 }
 
-// The tags in words of four, the last filled up with zero tags.
+/// The tags in words of four, the last filled up with zero tags.
 pub fn pack_tags(heap: Global, tags: &[PathTag]) -> Result<Vec<u32>, AllocError>
     ensures { λ r. ⌜ made r (λ v. Packs (now (tags .entry)) (vec-items v)) ⌝ }
 {

@@ -10,8 +10,8 @@ ghost use Rattle.monoid.specs.Laws.{reduced};
 use crate::MAX_SOURCES;
 use crate::Monoid;
 
-// The record of all sources, combined in their order. However they are bracketed, no combination is declined and the
-// meaning is the same.
+/// The record of all sources, combined in their order. However they are bracketed, no combination is declined and the
+/// meaning is the same.
 pub fn reduce<M: Monoid>(sources: &[M::SourceValue]) -> Result<M, crate::CountError>
     ensures reduces { λ r. ⌜ Reduced meaning (reduced empty op source) (now (sources .entry)) r ⌝ }
     ensures bracketings { λ r. ⌜ made r (λ x. (t : Bracketing M·SourceValue) → leaves t ≡ now (sources .entry) → (a : Result M CountError) → Gives meaning empty op source Fits t a → Agrees meaning x a) ⌝ }
@@ -26,7 +26,7 @@ pub fn reduce<M: Monoid>(sources: &[M::SourceValue]) -> Result<M, crate::CountEr
     Ok(total)
 }
 
-// Row i becomes the record of the sources before i. Rows past the sources stay, and all rows of a declined call.
+/// Row i becomes the record of the sources before i. Rows past the sources stay, and all rows of a declined call.
 pub fn prefixes<M: Monoid>(
     sources: &[M::SourceValue],
     table: &mut [M],
