@@ -147,11 +147,13 @@ fn prefix_table(words: &[u32], runs: usize) {
     });
     #[cfg(ours)]
     let own = {
-        let mut other = vec![[0; 5]; SOURCES];
+        // the same memory for both sides
+        let by_crate = table.clone();
+        table.fill([0; 5]);
         let ns = best(runs, || {
-            ours::prefix_path(black_box(words), black_box(&mut other))
+            ours::prefix_path(black_box(words), black_box(&mut table))
         });
-        assert_eq!(table, other, "prefix table");
+        assert!(table == by_crate, "prefix table");
         Some(ns)
     };
     #[cfg(not(ours))]

@@ -5,6 +5,8 @@ ghost use Rattle.monoid.specs.Laws.{reduced};
 ghost use Rattle.monoid.specs.PathTags.{none, plus, from-tag, counts-of};
 ghost use Rattle.count.specs.Counted.{Counted};
 use crate::input::Sheet;
+use math::f16_to_f32;
+use math::f32_to_f16;
 use monoid::CountError;
 use monoid::clip::ClipBic;
 use monoid::clip::ClipDepth;
@@ -24,7 +26,7 @@ use std::error::Error;
 use std::fmt;
 use std::io;
 
-// Why a sheet was not counted.
+/// Why a sheet was not counted.
 #[derive(Clone, Copy, Debug)]
 pub enum ReportError {
     Declined(u32),
@@ -54,7 +56,7 @@ pub impl fmt::Display for ReportError as ReportErrorDisplay {
 
 pub impl Error for ReportError as ReportErrorError {}
 
-// The totals of a sheet, and the record of the draw tags before each.
+/// The totals of a sheet, and the record of the draw tags before each.
 #[derive(Drop)]
 pub struct Counts {
     paths: PathMonoid,
@@ -71,7 +73,7 @@ fn path_totals(heap: Global, tags: &[PathTag]) -> Result<PathMonoid, ReportError
     Ok(reduce(words.as_slice())?)
 }
 
-// The counts of a sheet. It is declined for want of memory, and for too many tags.
+/// The counts of a sheet. It is declined for want of memory, and for too many tags.
 pub fn count(heap: Global, sheet: &Sheet) -> Result<Counts, ReportError>
     ensures { λ r. ⌜ made r (λ c. Counted (now (sheet .entry)) c) ⌝ }
 {
@@ -118,6 +120,7 @@ fn print_row(rt: &LibcRuntime, tags: &[DrawTag], i: usize, before: &DrawMonoid) 
     println!(rt, "")
 }
 
+/// Prints the totals, a row for each draw tag, and the conversions.
 pub fn print_counts(rt: &LibcRuntime, sheet: &Sheet, counts: &Counts) -> io::Result<()> {
     let PathMonoid {
         trans_ix,
@@ -137,6 +140,19 @@ pub fn print_counts(rt: &LibcRuntime, sheet: &Sheet, counts: &Counts) -> io::Res
     println!(rt, "clip: {a} {b}")?;
     for (i, row) in counts.rows.iter().enumerate() {
         print_row(rt, sheet.draw_tags.as_slice(), i, row)?;
+    }
+    print_conversions(rt, sheet)
+}
+
+// The halves of the singles, and the singles of the halves.
+fn print_conversions(rt: &LibcRuntime, sheet: &Sheet) -> io::Result<()> {
+    for single in sheet.singles.iter() {
+        let half = f32_to_f16(*single);
+        println!(rt, "f32_to_f16: {single:08X} {half:04X}")?;
+    }
+    for half in sheet.halves.iter() {
+        let single = f16_to_f32(*half);
+        println!(rt, "f16_to_f32: {half:04X} {single:08X}")?;
     }
     Ok(())
 }
