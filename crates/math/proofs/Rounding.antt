@@ -3,11 +3,11 @@ use mathlib.Core.Path.{_≡_, refl, sym, ap, subst, _∙_}
 use mathlib.Core.Logic.{inl, inr}
 use mathlib.Core.Bool.{Bool, true, false, cond}
 use Prim.Native.Nat.{ℕ, suc, _+_, _-_, _*_, _/_, _%_, _^_, _<_, _≤_}
-use native.Mathlib.Nat.{mul-assoc, add-mul, mul-left-comm, mul-comm, le-of-lt, mul-le-mul-right, mul-lt-mul-of-pos-right, eq-or-lt-of-le, one-mul, pow-le-pow-right, mod-lt, div-add-mod'}
+use native.Mathlib.Nat.{mul-assoc, add-mul, mul-left-comm, mul-le-mul-right, mul-lt-mul-of-pos-right, eq-or-lt-of-le, one-mul, pow-le-pow-right, mod-lt, div-add-mod'}
 use native.Mathlib.Omega.{arith}
 use lib.Pow.{pow-pos, pow-add}
 use lib.Arith.{digits-div, digits-mod}
-use lib.Dec.{T, eqb, eqb-refl, lit<, lit≤}
+use lib.Dec.{T, eqb, eqb-refl, lit<}
 use lib.Ieee.Bits.{is-true}
 use Rattle.math.specs.Sizes.{half-steps, single-size, half-size}
 use Rattle.math.specs.Halves.{apart, distance, Nearest, Rounded, RoundsTo, None-nearer}

@@ -1,5 +1,5 @@
 -- The single that a half is: it is the only one, and rounds back to the half.
-use mathlib.Core.Path.{_≡_, refl, sym, ap, subst, _∙_}
+use mathlib.Core.Path.{_≡_, sym, ap, subst, _∙_}
 use mathlib.Core.Logic.{inl, inr}
 use Prim.Native.Nat.{ℕ, zero, suc, _+_, _-_, _*_, _/_, _%_, _^_, _<_, _≤_}
 use native.Mathlib.Nat.{mul-assoc, mul-left-comm, le-of-lt, eq-or-lt-of-le, pow-succ'}

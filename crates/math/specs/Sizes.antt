@@ -24,7 +24,7 @@ half-steps n = size-in 1024 n
 abbrev pub half-size : ℕ → ℕ
 half-size n = half-steps n * 2 ^ 125
 
--- The arithmetic of f32 reads the pattern b as this section does.
+-- What the arithmetic of f32 takes the pattern b for: a number of this size, an infinity or a NaN.
 pub record Means (b : ℕ) : Type 0 where
   pub number : b % 0x80000000 < 0x7f800000 → HasValue (ofBits binary32 b) (leb 0x80000000 b) (single-size (b % 0x80000000)) (2 ^ 149)
   pub infinite : b % 0x80000000 ≡ 0x7f800000 → ofBits binary32 b ≡ inf (leb 0x80000000 b)

@@ -1,0 +1,12 @@
+-- The lemmas.
+pub mod Units
+pub mod Rounding
+pub mod Thirds
+pub mod Tangency
+pub mod Extremes
+pub mod Epsilon
+pub mod Differences
+pub mod Stretches
+pub mod Lists
+pub mod Compared
+pub mod Examples

@@ -1,0 +1,6 @@
+-- The parts of the specification.
+pub mod Numbers
+pub mod Tangents
+pub mod Extents
+pub mod Segments
+pub mod Worked
