@@ -1,22 +1,20 @@
 -- What the rules amount to, from how a path's entries are laid out.
-use Prim.Native.Nat.{ℕ, suc, _+_, _*_, _-_, _<_, _≤_}
+use Prim.Native.Nat.{ℕ, _+_, _-_, _<_, _≤_}
 use mathlib.Core.Path.{_≡_, refl, sym, _∙_, ap, subst}
 use mathlib.Core.Bool.{Bool, true, false, cond}
-use mathlib.Core.List.{List, [], _∷_, _++_, append-assoc, append-nil}
+use mathlib.Core.List.{List, [], _∷_, _++_, append-nil}
 use native.Mathlib.Omega.{arith}
 use lib.ListN.{length, length-append}
 use Rattle.geometry.specs.declared.points.Segment.{Segment}
 use Rattle.geometry.specs.declared.points.Segment.the-variants.{Line, Quad, Cubic}
-use Rattle.monoid.specs.Laws.{reduced}
 use Rattle.monoid.specs.declared.path.PathTag.{PathTag}
-use Rattle.monoid.specs.PathTags.{Counts, none, plus, from-tag, ended}
-use Rattle.path.specs.declared.state.Step.{Step}
+use Rattle.monoid.specs.PathTags.{ended}
 use Rattle.path.specs.States.{by-state}
-use Rattle.path.specs.Entries.{point-words, tag-of, end-last, finished, path-tag}
-use Rattle.path.specs.Rules.{Own, Path, fresh, leave, finish, steps}
+use Rattle.path.specs.Entries.{point-words, tag-of, end-last, path-tag}
+use Rattle.path.specs.Rules.{Path, fresh, leave, steps}
 use Rattle.path.specs.Subpaths.{Subpath, tags-of, words-of, subpath-tags, all-tags, all-words, Whole, Each, Holds, Laid-out}
 use Rattle.path.specs.Subpaths.Laid-out.{at-rest, after-move, in-subpath}
-use Rattle.path.specs.Turns.{pieces, left-over, all-drawn}
+use Rattle.path.specs.Turns.{pieces, left-over}
 use Rattle.path.specs.Theorems.{ends-in, points-in, Reads-back, Counted, Ends-well, Amounts, After-any-steps}
 use Rattle.path.proofs.Lists.{end-last-append, length-end-last}
 use Rattle.path.proofs.Laying.{Rests, leave-rests, rest-laid, length-tags, laid-out}

@@ -2,14 +2,12 @@
 use Prim.Native.Nat.{ℕ, _+_, _≤_}
 use mathlib.Core.Path.{_≡_, refl, sym, _∙_, ap, subst}
 use mathlib.Core.Bool.{Bool, true, false, _&&_}
-use mathlib.Core.List.{List}
 use lib.Dec.{leb}
 use borrow.Author.Tests.{leb-true}
 use native.Mathlib.Omega.{arith}
-use lib.ListN.{length, take}
+use lib.ListN.{length}
 use Rattle.std.specs.declared.option.Option.{Option}
 use Rattle.std.specs.declared.option.Option.the-variants.{Some, None}
-use Rattle.std.specs.declared.result.Result.{Result}
 use Rattle.std.specs.declared.result.Result.the-variants.{Ok, Err}
 use Rattle.path.specs.declared.state.Call.{Call}
 use Rattle.path.specs.declared.state.Stream.{Stream}
@@ -19,8 +17,8 @@ use Rattle.path.specs.declared.state.Used.{Used}
 use Rattle.path.specs.declared.state.Declined.{Declined}
 use Rattle.path.specs.declared.state.Declined.the-variants.{Short, Full}
 use Rattle.path.specs.Rules.{call}
-use Rattle.path.specs.Space.{used-by, lacks, roomy}
-use Rattle.path.specs.View.{Lent, view, Held, Ready, Does}
+use Rattle.path.specs.Space.{used-by, roomy}
+use Rattle.path.specs.View.{Lent, view, Ready, Does}
 use Rattle.path.specs.Calls.{in-use, lacking, or-else, declined, answer, said, After, Answered, needs}
 use Rattle.path.proofs.Copy.{enough, spacious}
 

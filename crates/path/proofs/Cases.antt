@@ -1,6 +1,5 @@
 -- What each rule is in each case.
-use Prim.Native.Nat.{ℕ}
-use mathlib.Core.Path.{_≡_, refl, sym, _∙_, ap}
+use mathlib.Core.Path.{_≡_, refl, _∙_, ap}
 use mathlib.Core.Bool.{Bool, true, false, cond}
 use mathlib.Core.Logic.{_≢_}
 use Rattle.std.specs.declared.option.Option.{Option}
@@ -11,7 +10,7 @@ use Rattle.geometry.specs.Segments.{tangent-end, too-short, same-point, end-poi
 use Rattle.path.specs.declared.state.PathState.{PathState}
 use Rattle.path.specs.declared.state.PathState.the-variants.{Start, MoveTo, NonemptySubpath}
 use Rattle.path.specs.Entries.{last-point}
-use Rattle.path.specs.Rules.{Path, write, put, join, mark-end, marker, put-marker, close, close-in, leave, leave-in, move-to, put-first, draw, draw-in, segment-to, segment-in}
+use Rattle.path.specs.Rules.{Path, write, put, join, mark-end, put-marker, close, close-in, leave, leave-in, move-to, put-first, draw, draw-in, segment-to, segment-in}
 
 pub put-short : (s : Segment) (m : Path) → too-short (last-point (m .own .words)) s ≡ true → put s m ≡ m
 unfolding put

@@ -19,7 +19,7 @@ use Rattle.path.specs.declared.state.Call.{Call}
 use Rattle.path.specs.declared.state.Used.{Used}
 use Rattle.path.specs.declared.state.Stream.the-variants.{PathTags, PathData}
 use Rattle.path.specs.States.{by-state}
-use Rattle.path.specs.Rules.{Own, Path, call}
+use Rattle.path.specs.Rules.{Own, call}
 use Rattle.path.specs.Space.{used-by, lacks}
 use Rattle.path.specs.View.{Lent, view, Held, Room, Ready, Does}
 use Rattle.path.proofs.Frame.{under, Sound, local}

@@ -1,5 +1,5 @@
 -- A call looks at a path's last tag and last two words only: what lies before stays.
-use Prim.Native.Nat.{ℕ, _+_, _-_, _≤_, _<_, min}
+use Prim.Native.Nat.{_+_, _-_, _≤_, _<_, min}
 use mathlib.Core.Path.{_≡_, refl, sym, _∙_, ap}
 use mathlib.Core.Bool.{Bool, true, false, cond}
 use mathlib.Core.List.{List, [], _∷_, _++_, append-assoc}
@@ -16,7 +16,6 @@ use Rattle.geometry.specs.Segments.{tangent-end, too-short, same-point, end-poi
 use Rattle.monoid.specs.declared.path.PathTag.{PathTag}
 use Rattle.path.specs.declared.state.PathState.{PathState}
 use Rattle.path.specs.declared.state.PathState.the-variants.{Start, MoveTo, NonemptySubpath}
-use Rattle.path.specs.declared.state.Step.{Step}
 use Rattle.path.specs.declared.state.Step.the-variants.{Move, Draw, Close}
 use Rattle.path.specs.declared.state.Call.{Call}
 use Rattle.path.specs.declared.state.Call.the-variants.{Take, Finish}

@@ -11,7 +11,7 @@ use Rattle.std.specs.declared.option.Option.{Option}
 use Rattle.std.specs.declared.option.Option.the-variants.{Some, None}
 use Rattle.geometry.specs.declared.points.Point.{Point}
 use Rattle.geometry.specs.declared.points.Segment.{Segment}
-use Rattle.geometry.specs.declared.points.Segment.the-variants.{Line, Quad}
+use Rattle.geometry.specs.declared.points.Segment.the-variants.{Line}
 use Rattle.geometry.specs.Segments.{tangent-end, too-short, same-point, end-point}
 use Rattle.monoid.specs.declared.path.PathTag.{PathTag}
 use Rattle.path.specs.declared.state.PathState.{PathState}
@@ -19,11 +19,11 @@ use Rattle.path.specs.declared.state.PathState.the-variants.{Start, MoveTo, No
 use Rattle.path.specs.declared.state.Step.{Step}
 use Rattle.path.specs.declared.state.Step.the-variants.{Move, Draw, Close}
 use Rattle.path.specs.Entries.{point-words, segment-words, tag-of, end-last, last-point, drop-point}
-use Rattle.path.specs.Rules.{Path, fresh, write, mark-end, drop-move, begin, with-tangent, put, join, marker, put-marker, close, close-in, leave, leave-in, move-to, put-first, draw, draw-in, segment-to, segment-in, step, steps}
+use Rattle.path.specs.Rules.{Path, fresh, write, mark-end, drop-move, begin, with-tangent, put, join, marker, put-marker, close, leave, leave-in, move-to, put-first, draw, segment-to, segment-in, step, steps}
 use Rattle.path.specs.Subpaths.{Subpath, end-of, tags-of, words-of, subpath-tags, subpath-words, all-tags, all-words, Whole, Each, Holds, Laid-out}
 use Rattle.path.specs.Subpaths.Laid-out.{at-rest, after-move, in-subpath}
 use Rattle.path.proofs.Lists.{last-point-append, drop-point-append, end-last-append, drop-point-one, last-point-segment, two-words}
-use Rattle.path.proofs.Cases.{close-at, leave-fill, leave-stroke, draw-at, segment-at}
+use Rattle.path.proofs.Cases.{close-at, leave-fill, leave-stroke, draw-at}
 
 -- one more segment, one more subpath
 tags-more : (ss : List Segment) (s : Segment) → tags-of (ss ++ s ∷ []) ≡ tags-of ss ++ tag-of s ∷ []

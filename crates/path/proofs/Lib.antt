@@ -1,3 +1,4 @@
+-- The parts of the proofs.
 pub mod Lists
 pub mod Cases
 pub mod Laying

@@ -13,18 +13,17 @@ use Rattle.geometry.specs.declared.points.Point.{Point}
 use Rattle.geometry.specs.declared.points.Segment.{Segment}
 use Rattle.geometry.specs.declared.points.Segment.the-variants.{Line}
 use Rattle.geometry.specs.Segments.{tangent-end, too-short, same-point, end-point}
-use Rattle.monoid.specs.declared.path.PathTag.{PathTag}
 use Rattle.path.specs.declared.open_path.OpenPath.{OpenPath}
 use Rattle.path.specs.declared.state.PathState.{PathState}
 use Rattle.path.specs.declared.state.PathState.the-variants.{Start, MoveTo, NonemptySubpath}
 use Rattle.path.specs.States.{by-state}
-use Rattle.path.specs.Entries.{point-words, segment-words, tag-of, end-last, last-point}
+use Rattle.path.specs.Entries.{point-words, segment-words, tag-of, last-point}
 use Rattle.path.specs.Rules.{Path, write, put, join, mark-end, marker, put-marker, close, leave, move-to, segment-to, segment-in, finish, begin, with-tangent, put-first, draw}
 use Rattle.path.specs.Opening.{draws, draws-in, opened, opened-in}
-use Rattle.path.specs.View.{Lent, view, Held, Room, Ready, Does}
+use Rattle.path.specs.View.{Lent, view, Room, Ready, Does}
 use Rattle.path.proofs.Lists.{length-end-last}
 use Rattle.path.proofs.Finish.{bounds}
-use Rattle.path.proofs.Cases.{draw-at, close-at, segment-at, join-open, put-open}
+use Rattle.path.proofs.Cases.{draw-at, close-at, put-open}
 
 pub as-rule : (f g : Path → Path) (a b : Lent) → f (view a) ≡ g (view a) → Does f a b → Does g a b
 as-rule f g a b e d = record { shows = d .shows ∙ e; kept = d .kept }

@@ -1,22 +1,21 @@
 -- The segments of whole subpaths, read in turn, and what their tags count.
-use Prim.Native.Nat.{ℕ, suc, _+_, _*_, _-_, _<_, _≤_, min}
+use Prim.Native.Nat.{ℕ, _+_, _*_, _-_, _<_}
 use mathlib.Core.Path.{_≡_, refl, sym, _∙_, ap, subst}
-use mathlib.Core.Bool.{Bool, true, false, cond}
+use mathlib.Core.Bool.{Bool}
 use mathlib.Core.List.{List, [], _∷_, _++_, append-assoc, append-nil}
 use native.Mathlib.Omega.{arith}
 use lib.ListN.{length, take, drop, length-append}
-use lib.Seq.{take-at, drop-at}
 use Rattle.geometry.specs.declared.points.Point.{Point}
 use Rattle.geometry.specs.declared.points.Segment.{Segment}
 use Rattle.geometry.specs.declared.points.Segment.the-variants.{Line, Quad, Cubic}
 use Rattle.geometry.specs.Segments.{end-point}
 use Rattle.monoid.specs.Laws.{reduced}
 use Rattle.monoid.specs.declared.path.PathTag.{PathTag}
-use Rattle.monoid.specs.PathTags.{Counts, none, plus, from-tag, segment-type, bit, ended, tag}
+use Rattle.monoid.specs.PathTags.{none, plus, from-tag, bit, ended, tag}
 use Rattle.path.specs.Entries.{point-words, segment-words, tag-of, end-last}
-use Rattle.path.specs.Subpaths.{Subpath, tags-of, words-of, subpath-tags, subpath-words, all-tags, all-words, Whole, Each}
+use Rattle.path.specs.Subpaths.{Subpath, tags-of, words-of, all-tags, all-words, Whole, Each}
 use Rattle.path.specs.Turns.{Piece, reads, passes, pieces, left-over, piece, drawn, all-drawn}
-use Rattle.path.specs.Theorems.{sum-of, points-in, ends-in, segments-in, One-end}
+use Rattle.path.specs.Theorems.{points-in, ends-in, segments-in, One-end}
 use Rattle.path.proofs.Lists.{end-last-append}
 
 -- the last of some segments

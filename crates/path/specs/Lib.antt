@@ -1,3 +1,4 @@
+-- The parts of the specification.
 pub mod States
 pub mod Entries
 pub mod Rules

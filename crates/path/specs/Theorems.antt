@@ -6,13 +6,13 @@ use mathlib.Core.List.{List, [], _∷_, _++_}
 use lib.ListN.{length}
 use Rattle.monoid.specs.Laws.{reduced}
 use Rattle.monoid.specs.declared.path.PathTag.{PathTag}
-use Rattle.monoid.specs.PathTags.{Counts, none, plus, from-tag, segment-type, bit}
+use Rattle.monoid.specs.PathTags.{none, plus, from-tag, segment-type, bit}
 use Rattle.path.specs.declared.state.PathState.the-variants.{Start}
 use Rattle.path.specs.declared.state.Step.{Step}
 use Rattle.path.specs.States.{by-state}
 use Rattle.path.specs.Entries.{path-tag}
 use Rattle.path.specs.Rules.{Path, fresh, leave, finish, steps}
-use Rattle.path.specs.Subpaths.{Subpath, Laid-out, Whole, Holds, Each, subpath-tags}
+use Rattle.path.specs.Subpaths.{Subpath, Laid-out, Whole, Holds, subpath-tags}
 use Rattle.path.specs.Turns.{pieces, left-over, all-drawn}
 
 abbrev pub sum-of : (PathTag → ℕ) → List PathTag → ℕ

@@ -6,7 +6,6 @@ use mathlib.Core.List.{List, [], _∷_}
 use lib.ListN.{length}
 use Rattle.geometry.specs.declared.points.Point.{Point}
 use Rattle.geometry.specs.declared.points.Segment.the-variants.{Line}
-use Rattle.monoid.specs.declared.path.PathTag.{PathTag}
 use Rattle.monoid.specs.PathTags.{tag}
 use Rattle.path.specs.declared.state.Step.{Step}
 use Rattle.path.specs.declared.state.Step.the-variants.{Move, Draw, Close}

@@ -8,8 +8,8 @@ mod calls;
 mod cycle;
 mod space;
 
-// An open path, which writes to the entries that each call lends it, from their start on. It uses the first `tags`
-// tags and the first `words` words; the segments that it has counted are its tags.
+/// An open path, which writes to the entries that each call lends it, from their start on. It uses the first `tags`
+/// tags and the first `words` words; the segments that it has counted are its tags.
 #[derive(Drop)]
 pub struct OpenPath {
     state: PathState,

@@ -2,7 +2,7 @@
 use geometry::points::Point;
 use geometry::points::Segment;
 
-// No subpath is open; one has its first point only; one has segments.
+/// No subpath is open; one has its first point only; one has segments.
 #[derive(Clone, Copy)]
 pub enum PathState {
     Start,
@@ -10,7 +10,7 @@ pub enum PathState {
     NonemptySubpath,
 }
 
-// A call that draws.
+/// A call that draws.
 #[derive(Clone, Copy)]
 pub enum Step {
     Move(Point),
@@ -18,35 +18,35 @@ pub enum Step {
     Close,
 }
 
-// A call on an open path: a step is taken, or the path is finished and its tag perhaps written.
+/// A call on an open path: a step is taken, or the path is finished and its tag perhaps written.
 #[derive(Clone, Copy)]
 pub enum Call {
     Take(Step),
     Finish(bool),
 }
 
-// The two streams that a path is written to, the lower first.
+/// The two streams that a path is written to, the lower first.
 #[derive(Clone, Copy)]
 pub enum Stream {
     PathTags,
     PathData,
 }
 
-// Why a call was declined: a stream shorter than the entries in use, or with no space for what the call leaves.
+/// Why a call was declined: a stream shorter than the entries in use, or with no space for what the call leaves.
 #[derive(Clone, Copy)]
 pub enum Declined {
     Short(Stream),
     Full(Stream),
 }
 
-// How many entries of the two streams are in use.
+/// How many entries of the two streams are in use.
 #[derive(Clone, Copy)]
 pub struct Used {
     pub tags: usize,
     pub words: usize,
 }
 
-// What a finished path has in use, and the segments that it counted.
+/// What a finished path has in use, and the segments that it counted.
 #[derive(Clone, Copy)]
 pub struct Finished {
     pub tags: usize,

@@ -1,3 +1,4 @@
+-- The last tag ends its subpath.
 use mathlib.Core.Path.{_∙_, ap}
 use Prim.Native.Nat.{_-_}
 use lib.ListN.{set, take}

@@ -1,7 +1,5 @@
-use borrow.Author.Needs.{needs}
-use mathlib.Core.Path.{_≡_}
+-- The tags of a path that ends.
 use native.Mathlib.Omega.{arith}
-use lib.ListN.{length, take}
 use Rattle.path.proofs.Finish.{Ends, end-none, end-room, end-tag, end-plain}
 use Rattle.path.proofs.entries.end_path.Needs as need
 

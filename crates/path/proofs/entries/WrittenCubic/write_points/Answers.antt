@@ -1,3 +1,4 @@
+-- The words of three points.
 use mathlib.Core.List.{_++_, append-assoc}
 use native.Mathlib.Omega.{arith}
 use lib.ListN.{take}

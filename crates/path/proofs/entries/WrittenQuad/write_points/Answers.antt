@@ -1,3 +1,4 @@
+-- The words of two points.
 use mathlib.Core.List.{append-assoc}
 use native.Mathlib.Omega.{arith}
 use lib.ListN.{take}

@@ -1,13 +1,13 @@
 -- What `move_to`, the segment calls, `close` and the marker ask of one another, and what they leave.
 use borrow.Author.Needs.{needs}
-use mathlib.Core.Path.{_≡_, refl, sym, _∙_, ap}
+use mathlib.Core.Path.{_≡_, sym, _∙_, ap}
 use mathlib.Core.Bool.{Bool, true, false}
 use native.Mathlib.Omega.{arith}
 use Rattle.geometry.specs.declared.points.Segment.the-variants.{Line, Quad}
 use Rattle.path.specs.declared.state.PathState.the-variants.{Start, MoveTo, NonemptySubpath}
-use Rattle.path.specs.Rules.{Path, join, close, leave, move-to, begin, segment-to, draw, mark-end, drop-move, put-marker}
+use Rattle.path.specs.Rules.{join, close, leave, move-to, segment-to, draw, mark-end, drop-move, put-marker}
 use Rattle.path.specs.Opening.{opened}
-use Rattle.path.specs.View.{Lent, lent, view}
+use Rattle.path.specs.View.{lent, view}
 use Rattle.path.proofs.Cases.{close-at, close-fill, close-stroke, leave-fill, leave-at, segment-open, join-open}
 use Rattle.path.proofs.Steps.{as-rule, and-then, ready-as, ready-next, room-as, room-mark, room-begin, room-close, state-after, stroke-joined, marked-open, ready-opened, ready-drawn, begun-drawn, does-drawn, does-moved, opened-again, opened-first, opened-begun, draws-at-start, draws-begun}
 use Rattle.path.proofs.open_path.OpenPath.+close+insert_marker+leave+line_to+move_to+open_subpath+quad_to.Needs as need

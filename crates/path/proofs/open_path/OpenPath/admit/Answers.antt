@@ -1,3 +1,4 @@
+-- Where there is space for any call, none is declined.
 use Rattle.path.specs.View.{lent}
 use Rattle.path.proofs.Answering.{said-roomy}
 use Rattle.path.proofs.open_path.OpenPath.admit.Needs as need

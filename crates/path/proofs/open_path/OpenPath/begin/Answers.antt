@@ -1,3 +1,4 @@
+-- A point is written, with room for it.
 use borrow.Author.Needs.{needs}
 use Rattle.path.specs.View.{lent}
 use Rattle.path.proofs.Steps.{Spare, spare-begin}

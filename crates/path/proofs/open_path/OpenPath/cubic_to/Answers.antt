@@ -1,3 +1,4 @@
+-- A cubic, by what the opening of a subpath answered.
 use native.Mathlib.Omega.{arith}
 use Rattle.geometry.specs.declared.points.Segment.the-variants.{Cubic}
 use Rattle.path.specs.View.{lent}

@@ -1,3 +1,4 @@
+-- The first segment of a subpath needs a tangent, and a later one does not.
 use borrow.Author.Needs.{needs}
 use mathlib.Core.Path.{sym, _∙_}
 use Rattle.std.specs.declared.option.Option.the-variants.{Some, None}

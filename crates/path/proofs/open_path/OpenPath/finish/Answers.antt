@@ -1,3 +1,4 @@
+-- A subpath is left with room for the path's tag, and no tag goes.
 use borrow.Author.Needs.{needs}
 use lib.ListN.{take}
 use Rattle.std.proofs.shelf.Lists.{length-take-le}

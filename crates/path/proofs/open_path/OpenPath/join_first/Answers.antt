@@ -1,3 +1,4 @@
+-- The line back is written, unless the path is there.
 use mathlib.Core.Path.{_≡_, sym}
 use mathlib.Core.Bool.{true, false}
 use lib.ListN.{take}

@@ -1,3 +1,4 @@
+-- In an open subpath a line is kept or dropped.
 use borrow.Author.Needs.{needs}
 use mathlib.Core.Path.{sym}
 use Rattle.geometry.specs.declared.points.Segment.the-variants.{Line}

@@ -1,3 +1,4 @@
+-- A fresh path, and what any steps from it come to.
 use mathlib.Core.Path.{refl}
 use Rattle.path.proofs.Taking.{one-end}
 use Rattle.path.proofs.Amounting.{after-any-steps}

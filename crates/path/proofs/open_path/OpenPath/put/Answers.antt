@@ -1,3 +1,4 @@
+-- A segment is written or dropped.
 use mathlib.Core.Path.{_≡_, sym}
 use mathlib.Core.Bool.{true, false}
 use lib.ListN.{take}

@@ -1,4 +1,4 @@
-use mathlib.Core.Path.{_≡_}
+-- A cubic that is accepted or declined.
 use Rattle.std.proofs.shelf.Results.{err-from-errBy}
 use Rattle.geometry.specs.declared.points.Segment.the-variants.{Cubic}
 use Rattle.path.specs.declared.state.Step.the-variants.{Draw}

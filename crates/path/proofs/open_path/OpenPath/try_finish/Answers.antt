@@ -1,7 +1,7 @@
-use mathlib.Core.Path.{_≡_, refl, sym, _∙_, ap}
+-- A finish that is accepted.
 use Rattle.path.specs.declared.state.Call.the-variants.{Finish}
 use Rattle.path.specs.View.{lent}
-use Rattle.path.proofs.Answering.{ready-admitted, not-declined, is-declined}
+use Rattle.path.proofs.Answering.{ready-admitted}
 use Rattle.path.proofs.open_path.OpenPath.try_finish.Needs as need
 
 pub finish-segments-requires : need.finish-segments-requires

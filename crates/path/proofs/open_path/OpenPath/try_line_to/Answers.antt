@@ -1,4 +1,4 @@
-use mathlib.Core.Path.{_≡_}
+-- A line that is accepted at once, accepted or declined.
 use Rattle.std.proofs.shelf.Results.{err-from-errBy}
 use Rattle.geometry.specs.declared.points.Segment.the-variants.{Line}
 use Rattle.path.specs.declared.state.Step.the-variants.{Draw}

@@ -1,4 +1,4 @@
-use mathlib.Core.Path.{_≡_}
+-- A move that is accepted or declined.
 use Rattle.std.proofs.shelf.Results.{err-from-errBy}
 use Rattle.path.specs.declared.state.Step.the-variants.{Move}
 use Rattle.path.specs.declared.state.Call.the-variants.{Take}

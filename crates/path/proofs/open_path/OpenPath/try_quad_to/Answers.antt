@@ -1,4 +1,4 @@
-use mathlib.Core.Path.{_≡_}
+-- A quadratic that is accepted or declined.
 use Rattle.std.proofs.shelf.Results.{err-from-errBy}
 use Rattle.geometry.specs.declared.points.Segment.the-variants.{Quad}
 use Rattle.path.specs.declared.state.Step.the-variants.{Draw}

@@ -1,3 +1,4 @@
+-- A segment is written, with room for its points and tag.
 use borrow.Author.Needs.{needs}
 use native.Mathlib.Omega.{arith}
 use lib.ListN.{length}

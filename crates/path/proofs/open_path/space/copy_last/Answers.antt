@@ -1,3 +1,4 @@
+-- The copy is the end of the whole.
 use native.Mathlib.Omega.{arith}
 use Rattle.path.proofs.Copy.{whole}
 use Rattle.path.proofs.open_path.space.copy_last.Needs as need
