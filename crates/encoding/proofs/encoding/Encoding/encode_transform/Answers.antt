@@ -1,0 +1,25 @@
+use mathlib.Core.Path.{_≡_, sym, ap, _∙_}
+use mathlib.Core.Bool.{true, cond}
+use borrow.Author.Needs.{needs}
+use Rattle.std.specs.declared.option.Option.the-variants.{None}
+use Rattle.std.specs.declared.result.Result.the-variants.{Ok, Err}
+use Rattle.encoding.specs.Errors.{full}
+use Rattle.encoding.specs.Sheet.{sheet, with-transforms}
+use Rattle.encoding.specs.Promises.{rooms}
+use Rattle.encoding.specs.Rules.{transform-rule, transformed, new-transform}
+use Rattle.encoding.proofs.Reasons.{told-none, told-some, too-full}
+use Rattle.encoding.proofs.encoding.Encoding.encode_transform.Needs as need
+
+pub returns-in-Break-fits : need.returns-in-Break-fits
+returns-in-Break-fits c = λ m.
+    let was = with-transforms m (c .args .path-tags .now) (c .args .transforms .now) in
+    let s = sheet (c .args .self .now) was in
+    let k = transform-rule (c .args .transform) in
+    let e = c .in-Break-fits .field-0 .0 in
+    let new : new-transform (c .args .transform) s ≡ true = search needs in
+    let r : c .from-residual-in-Break-fits .result ≡ Err e = search needs in
+    let fine : k .own s ≡ None = search needs in
+    too-full k s was _ e r
+    (told-none _ _ _ (sym (c .in-Continue-held .was tt) ∙ c .held .ensures .says))
+    fine
+    (ap (λ b. full (rooms (k .on) (cond b (transformed (c .args .transform) s) s) was)) new ∙ told-some _ e _ (sym (c .in-Break-fits .was tt) ∙ c .fits-2 .ensures .says))
