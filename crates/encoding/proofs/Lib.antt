@@ -5,3 +5,4 @@ pub mod Reasons
 pub mod Parts
 pub mod OpenPaths
 pub mod Endings
+pub mod Listing

@@ -40,3 +40,20 @@ pub passed-finite : {V : Type 0} (o : Option EncodeError) (f : Bool) (x v : V) �
 passed-finite None true x v q = refl
 passed-finite None false x v q = let z : _≡_ {A = ℕ} 0 1 = cc in absurd (omega arith)
 passed-finite (Some e) f x v q = let z : _≡_ {A = ℕ} 0 1 = cc in absurd (omega arith)
+
+-- the first check declines
+pub too-short : {V : Type 0} (k : Rule V) (s : Sheet) (m : Streams) (r : Result V EncodeError) (e : EncodeError) → r ≡ Err e → short (rooms (k .on) s m) ≡ Some e → Answered k s m r s
+too-short k s m r e is lacks =
+    let why : reason k s m ≡ Some e = λ i. or-else (lacks i) (or-else (k .own s) (full (rooms (k .on) (k .next s) m))) in
+    record { says = is ∙ ap (λ o. told o (k .answer s)) (sym why); leaves = ap (λ o. left-by o s (k .next s)) (sym why) }
+
+or-else-early : (a b c : Option EncodeError) (e : EncodeError) → or-else a b ≡ Some e → or-else a (or-else b c) ≡ Some e
+or-else-early None None c e h = let z : _≡_ {A = ℕ} 0 1 = cc in absurd (omega arith)
+or-else-early None (Some b) c e h = h
+or-else-early (Some a) b c e h = h
+
+-- a check before the last declines
+pub not-admitted : {V : Type 0} (k : Rule V) (s : Sheet) (m : Streams) (r : Result V EncodeError) (e : EncodeError) → r ≡ Err e → or-else (short (rooms (k .on) s m)) (k .own s) ≡ Some e → Answered k s m r s
+not-admitted k s m r e is lacks =
+    let why : reason k s m ≡ Some e = or-else-early (short (rooms (k .on) s m)) (k .own s) (full (rooms (k .on) (k .next s) m)) e lacks in
+    record { says = is ∙ ap (λ o. told o (k .answer s)) (sym why); leaves = ap (λ o. left-by o s (k .next s)) (sym why) }

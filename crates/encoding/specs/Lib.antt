@@ -8,4 +8,5 @@ pub mod Sheet
 pub mod Promises
 pub mod Rules
 pub mod Paths
+pub mod Elements
 pub mod Inner

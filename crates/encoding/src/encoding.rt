@@ -6,6 +6,7 @@ ghost use Rattle.encoding.specs.declared.error.Stream.the-variants as Of;
 mod draws;
 mod flags;
 mod settings;
+mod shapes;
 mod start;
 
 /// How much of each stream a plan uses, what was counted, and what is forced next.

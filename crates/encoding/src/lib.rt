@@ -1,4 +1,5 @@
 // Encoding a plan into six streams.
+pub mod element;
 pub mod encoding;
 pub mod error;
 pub mod path_encoder;

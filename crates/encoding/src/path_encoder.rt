@@ -6,6 +6,7 @@ use crate::encoding::Encoding;
 use path::open_path::OpenPath;
 
 mod calls;
+mod elements;
 mod finish;
 mod opening;
 mod relay;

@@ -156,3 +156,50 @@ fn strokes() -> Result<(), Fail> {
     }
     Ok(())
 }
+
+// A NaN that stands in the last transform equals nothing, so that the same call writes again.
+#[test]
+fn a_nan_in_a_stored_transform() -> Result<(), Fail> {
+    let mut path_tags = [PathTag(0); 4];
+    let mut transforms = [scaled(0.0); 4];
+    let mut encoding = Encoding::new();
+    let first = truth(encoding.encode_transform(&mut path_tags, &mut transforms, scaled(0.0)));
+    transforms[0] = scaled(0.0 / 0.0);
+    let again = truth(encoding.encode_transform(&mut path_tags, &mut transforms, scaled(0.0)));
+    check_eq((first, again), (TRUE, TRUE))
+}
+
+// The join, the caps at the start and at the end, the miter limit, and the word.
+const WORDS: [(Join, Cap, Cap, f32, u32); 6] = [
+    (Join::Bevel, Cap::Butt, Cap::Butt, 0.0, 0x8000_0000),
+    (Join::Miter, Cap::Butt, Cap::Butt, 4.0, 0x9000_4400),
+    (Join::Round, Cap::Butt, Cap::Butt, 4.0, 0xa000_4400),
+    (Join::Bevel, Cap::Square, Cap::Butt, 1.0, 0x8400_3c00),
+    (Join::Bevel, Cap::Round, Cap::Square, 1.0, 0x8900_3c00),
+    (Join::Bevel, Cap::Butt, Cap::Round, -1.0, 0x8200_bc00),
+];
+
+fn word(stroke: Stroke) -> u32 {
+    match Style::from_stroke(stroke) {
+        Ok(style) => style.flags_and_miter_limit,
+        Err(_) => 0,
+    }
+}
+
+#[test]
+fn words() -> Result<(), Fail> {
+    for (join, start_cap, end_cap, miter_limit, expected) in WORDS {
+        let stroke = Stroke {
+            width: 1.0,
+            join,
+            miter_limit,
+            start_cap,
+            end_cap,
+        };
+        check_eq(word(stroke), expected)?;
+    }
+    check_eq(
+        Style::from_fill(Fill::EvenOdd).flags_and_miter_limit,
+        0x4000_0000,
+    )
+}

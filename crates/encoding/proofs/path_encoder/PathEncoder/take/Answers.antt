@@ -1,18 +1,28 @@
-use mathlib.Core.Path.{_≡_, sym, _∙_, subst}
+use mathlib.Core.Path.{_≡_, sym, ap, _∙_, subst}
 use mathlib.Core.Bool.{Bool, true}
 use native.Mathlib.Omega.{arith}
 use borrow.Rule.Slice.PartMut.{putMid}
 use Prim.Native.Nat.{_-_}
 use Rattle.std.specs.declared.result.Result.{Result}
+use Rattle.std.specs.declared.result.Result.the-variants.{Err}
+use Rattle.std.proofs.shelf.Results.{err-from-errBy}
 use Rattle.encoding.specs.declared.error.EncodeError.{EncodeError}
 use Rattle.encoding.specs.Sheet.{with-paths}
-use Rattle.encoding.specs.Promises.{Answered, open-sheet}
+use Rattle.encoding.specs.Promises.{Answered, open-sheet, path-sheet}
 use Rattle.encoding.specs.Rules.{Nothing}
 use Rattle.encoding.specs.Paths.{step-rule}
 use Rattle.encoding.specs.Inner.{relayed}
-use Rattle.encoding.proofs.Reasons.{passed-finite}
+use Rattle.encoding.proofs.Reasons.{told-some, not-admitted, passed-finite}
 use Rattle.encoding.proofs.OpenPaths.{lending, took}
 use Rattle.encoding.proofs.path_encoder.PathEncoder.take.Needs as need
+
+pub returns-in-Break-admit : need.returns-in-Break-admit
+returns-in-Break-admit g c = λ m.
+    let was = with-paths m (c .args .path-tags .now) (c .args .path-data .now) in
+    let p = err-from-errBy (c .from-residual .result) (c .from-residual .ensures .1) in
+    let e = c .in-Break-admit .field-0 .0 in
+    not-admitted (step-rule (c .args .is-finite) (g .S·PathStep .step (c .args .step))) (path-sheet (c .args .self .now) was) was _ e (p .1 ∙ ap Err (p .2))
+    (told-some _ e _ (c .in-Break-admit .ensures tt .says))
 
 pub returns : need.returns
 returns g c = λ m.

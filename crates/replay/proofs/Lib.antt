@@ -1,0 +1,15 @@
+-- The lemmas.
+pub mod Lists
+pub mod Clips
+pub mod Drawings
+pub mod Shown
+pub mod Pieces
+pub mod Outlined
+pub mod Kept
+pub mod Only
+pub mod Theorem
+pub mod Runs
+pub mod Replaying
+pub mod Backward
+pub mod Reading
+pub mod Examples
