@@ -1,5 +1,7 @@
 // Counts the tags of a sheet. Lines `path_tags:` with hex bytes and `draw_tags:` with hex words come in, in any number;
 // the totals and, for each draw tag, the record of those before it go out.
+#![tactic(auto)]
+
 mod input;
 mod report;
 

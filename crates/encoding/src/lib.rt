@@ -1,4 +1,6 @@
 // Encoding a plan into six streams.
+#![tactic(auto)]
+
 pub mod encoding;
 pub mod path_encoder;
 mod streams;

@@ -1,4 +1,6 @@
 // Tests of the Encoding at its edges, by its public calls.
+#![tactic(auto)]
+
 #[cfg(test)]
 mod answers;
 #[cfg(test)]

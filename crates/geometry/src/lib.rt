@@ -1,4 +1,6 @@
 // The f32 geometry of paths: numbers, points, start tangents and segments too short to keep.
+#![tactic(auto)]
+
 pub mod curves;
 pub mod extents;
 pub mod numbers;

@@ -1,4 +1,6 @@
 // The geometry as compiled, on the worked examples and at the edges of the numbers.
+#![tactic(auto)]
+
 #[cfg(test)]
 mod tests {
     use geometry::curves::{Cubic, Curve, Line, Quad, is_same_point, point_of};

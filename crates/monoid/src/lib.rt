@@ -1,4 +1,6 @@
 // Counting tags: records that combine, and what a list of tags comes to.
+#![tactic(auto)]
+
 ghost use Rattle.std.specs.Prelude.{◌≡◌, ◌+◌, ◌^◌, ◌<◌, ◌≤◌, List, length};
 ghost use Rattle.monoid.specs.Answers.{number, most, Combined};
 ghost use Rattle.monoid.specs.Laws.{Laws, reduced};

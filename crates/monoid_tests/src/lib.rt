@@ -1,4 +1,6 @@
 // Tests of the counting layer, by its public calls.
+#![tactic(auto)]
+
 #[cfg(test)]
 mod combining;
 #[cfg(test)]

@@ -1,4 +1,6 @@
 // Tests of an open path by its public calls.
+#![tactic(auto)]
+
 #[cfg(test)]
 mod drawing;
 #[cfg(test)]

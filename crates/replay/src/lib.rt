@@ -1,4 +1,6 @@
 // What a list of calls leaves in the streams.
+#![tactic(auto)]
+
 pub mod calls;
 pub mod reader;
 pub mod replay;

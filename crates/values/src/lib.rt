@@ -1,4 +1,6 @@
 // What the calls of a plan are handed and what they answer: transforms, styles, elements, refusals.
+#![tactic(auto)]
+
 pub mod element;
 pub mod error;
 pub mod setting;
