@@ -10,8 +10,8 @@ use crate::{MAX_SOURCES, Monoid};
 /// The record of all sources, combined in their order. However they are bracketed, no combination is declined and the
 /// meaning is the same.
 pub fn reduce<M: Monoid>(sources: &[M::SourceValue]) -> Result<M, crate::CountError>
-    ensures reduces { Reduced meaning (reduced empty op source) sources.now result }
-    ensures bracketings { IfOk result (λ x. (t : Bracketing M.SourceValue) → leaves t ≡ sources.now → (a : Result M CountError) → Gives meaning empty op source Fits t a → Agrees meaning x a) }
+    ensures reduces { Reduced M.meaning (reduced M.empty M.op M.source) sources.now result }
+    ensures bracketings { IfOk result (λ x. (t : Bracketing M.SourceValue) → leaves t ≡ sources.now → (a : Result M CountError) → Gives M.meaning M.empty M.op M.source M.Fits t a → Agrees M.meaning x a) }
 {
     if sources.len() > MAX_SOURCES {
         return Err(crate::CountError::TooManySources);
@@ -28,7 +28,7 @@ pub fn prefixes<M: Monoid>(
     sources: &[M::SourceValue],
     table: &mut [M],
 ) -> Result<(), crate::CountError>
-    ensures { Tabled meaning (reduced empty op source) sources.now table.old table.new result }
+    ensures { Tabled M.meaning (reduced M.empty M.op M.source) sources.now table.old table.new result }
 {
     if sources.len() > MAX_SOURCES {
         return Err(crate::CountError::TooManySources);

@@ -8,6 +8,6 @@ use Rattle.math.proofs.f32_to_f16.Goals as goal
 pub returns : goal.returns
 returns c =
     let b : ℕ = c.args.bits in
-    let r : ℕ = c.args.bits / 0x80000000 * 0x8000 + c.round-size-half.result in
-    let x : RoundsTo c.args.bits (c.args.bits / 0x80000000 * 0x8000 + c.round-size-half.result) = signed c.args.bits c.round-size-half.result c.round-size-half.ensures in
+    let r : ℕ = c.args.bits / 0x80000000 * 0x8000 + c.round_size-half.result in
+    let x : RoundsTo c.args.bits (c.args.bits / 0x80000000 * 0x8000 + c.round_size-half.result) = signed c.args.bits c.round_size-half.result c.round_size-half.ensures in
     record { half = x; only = λ h y. one_half b h r y x; nearest = none-nearer b r x; means = means b }

@@ -20,5 +20,5 @@ returns-then-end-tags c =
 
 pub returns : goal.returns
 returns c =
-    let both = met c.args.tags.now c.args.end c.latest-open.result c.if-end-tags.false c.if-tags-end.false c.latest-open.ensures in
+    let both = met c.args.tags.now c.args.end c.latest_open.result c.if-end-tags.false c.if-tags-end.false c.latest_open.ensures in
     record { met = both.0; reduces = both.1 }

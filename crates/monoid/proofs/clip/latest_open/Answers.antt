@@ -24,8 +24,8 @@ loop-i-preserved-then-tag c =
     (as_begin _ c.if-tag.true) c.loop-i.invariant.1 in
     (omega arith, step ∙ (λ k. bic (pops k) (pushes k)))
 
-pub overflow-add-ended : goal.overflow-add-ended
-overflow-add-ended c = record { fits = omega (arith, c.loop-i.invariant.0) }
+pub overflow_add-ended : goal.overflow_add-ended
+overflow_add-ended c = record { fits = omega (arith, c.loop-i.invariant.0) }
 
 pub loop-i-preserved-then-tag-2 : goal.loop-i-preserved-then-tag-2
 loop-i-preserved-then-tag-2 c =

@@ -2,15 +2,15 @@ use Rattle.std.proofs.Common.{◌≡◌, ◌<◌, ◌≢◌, length, ◌∙◌, 
 use Rattle.monoid.proofs.Reducing.{reduced-more, fitting_more}
 use Rattle.monoid.proofs.reduction.prefixes.Goals as goal
 
-pub combine-fitting-total-requires : goal.combine-fitting-total-requires
-combine-fitting-total-requires g c =
+pub combine_fitting-total-requires : goal.combine_fitting-total-requires
+combine_fitting-total-requires g c =
     fitting_more g.met.M.Monoid.monoid g.M.Monoid.source g.M.Monoid.Fits g.met.M.Monoid.few c.args.sources.now c.loop-i.i
     (omega arith) c.loop-i-test.true c.index-sources-i.is c.loop-i.invariant.1 c.new.ensures
 
 pub loop-i-preserved : goal.loop-i-preserved
 loop-i-preserved g c = (
   omega arith,
-  c.combine-fitting-total.ensures
+  c.combine_fitting-total.ensures
       ∙ reduced-more g.met.M.Monoid.monoid g.M.Monoid.source c.args.sources.now c.loop-i.i
       c.loop-i-test.true c.index-sources-i.is c.loop-i.invariant.1 c.new.ensures,
   below_more _ _

@@ -5,15 +5,15 @@ use Rattle.monoid.specs.Laws.{reduced}
 use Rattle.monoid.proofs.Reducing.{reduced-more, fitting_more, bracketing-means}
 use Rattle.monoid.proofs.reduction.reduce.Goals as goal
 
-pub combine-fitting-total-requires : goal.combine-fitting-total-requires
-combine-fitting-total-requires g c =
+pub combine_fitting-total-requires : goal.combine_fitting-total-requires
+combine_fitting-total-requires g c =
     fitting_more g.met.M.Monoid.monoid g.M.Monoid.source g.M.Monoid.Fits g.met.M.Monoid.few c.args.sources.now c.loop-s.s-index
     (omega arith) c.loop-s-test.true c.s-item.is c.loop-s.invariant.1 c.new.ensures
 
 pub loop-s-preserved : goal.loop-s-preserved
 loop-s-preserved g c = (
   omega arith,
-  c.combine-fitting-total.ensures
+  c.combine_fitting-total.ensures
       ∙ reduced-more g.met.M.Monoid.monoid g.M.Monoid.source c.args.sources.now c.loop-s.s-index
       c.loop-s-test.true c.s-item.is c.loop-s.invariant.1 c.new.ensures,
 )
