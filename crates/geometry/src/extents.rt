@@ -12,7 +12,9 @@ use crate::tangents::{EPSILON, is_far};
 fn widened(s: (f32, f32), x: f32) -> (f32, f32)
     ensures { result ≡ (float_min s.0 x, float_max s.1 x) }
 {
-    (s.0.min(x), s.1.max(x))
+    let least = if s.0 <= x || x.is_nan() { s.0 } else { x };
+    let greatest = if x <= s.1 || x.is_nan() { s.1 } else { x };
+    (least, greatest)
 }
 
 fn is_wide(s: (f32, f32)) -> bool

@@ -12,7 +12,7 @@ returns c =
     let x1 : T (fits binary32 c.args.p1.0) = search rules in
     let y1 : T (fits binary32 c.args.p1.1) = search rules in
     record {
-      value = ap not c.is-far.ensures ∙ by_its_ends c.args.p0 c.args.p1 x0 y0 x1 y1;
-      in-x = extremes _ _;
-      in-y = extremes _ _;
+      value = ap not c.is_far.ensures ∙ by_its_ends c.args.p0 c.args.p1 x0 y0 x1 y1;
+      in_x = extremes _ _;
+      in_y = extremes _ _;
     }

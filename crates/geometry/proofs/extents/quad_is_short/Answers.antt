@@ -5,8 +5,8 @@ use Rattle.geometry.proofs.Extremes.{extremes}
 use Rattle.geometry.proofs.Stretches.{long}
 use Rattle.geometry.proofs.extents.quad_is_short.Goals as goal
 
-pub returns-then-is-far : goal.returns-then-is-far
-returns-then-is-far c =
+pub returns-then-is_far : goal.returns-then-is_far
+returns-then-is_far c =
     let x0 : T (fits binary32 c.args.p0.0) = search rules in
     let y0 : T (fits binary32 c.args.p0.1) = search rules in
     let x1 : T (fits binary32 c.args.p1.0) = search rules in
@@ -14,10 +14,10 @@ returns-then-is-far c =
     let x2 : T (fits binary32 c.args.p2.0) = search rules in
     let y2 : T (fits binary32 c.args.p2.1) = search rules in
     record {
-      value = long c.args.p0 c.args.p2 (c.args.p1 ∷ c.args.p2 ∷ []) (x0, (x1, (x2, tt))) (y0, (y1, (y2, tt))) (inr (inl refl)) (inr (inl refl)) (sym c.if-is-far.ensures);
-      in-x = extremes _ _;
-      in-y = extremes _ _;
+      value = long c.args.p0 c.args.p2 (c.args.p1 ∷ c.args.p2 ∷ []) (x0, (x1, (x2, tt))) (y0, (y1, (y2, tt))) (inr (inl refl)) (inr (inl refl)) (sym c.if-is_far.ensures);
+      in_x = extremes _ _;
+      in_y = extremes _ _;
     }
 
 pub returns : goal.returns
-returns c = record { value = search rules; in-x = extremes _ _; in-y = extremes _ _ }
+returns c = record { value = search rules; in_x = extremes _ _; in_y = extremes _ _ }

@@ -8,11 +8,11 @@ loop-x-init c = refl
 
 pub loop-x-preserved : goal.loop-x-preserved
 loop-x-preserved c =
-    finite_more c.args.xs.now c.loop-x.x-index c.loop-x-test.true (sym c.if-not-is-finite.ensures.value) c.loop-x.invariant
+    finite_more c.args.xs.now c.loop-x.x-index c.loop-x-test.true (sym c.if-not-is_finite.ensures.value) c.loop-x.invariant
 
-pub returns-then-not-is-finite : goal.returns-then-not-is-finite
-returns-then-not-is-finite c =
-    finite_not c.args.xs.now c.loop-x.x-index c.loop-x-test.true (sym c.if-not-is-finite.ensures.value) c.loop-x.invariant
+pub returns-then-not-is_finite : goal.returns-then-not-is_finite
+returns-then-not-is_finite c =
+    finite_not c.args.xs.now c.loop-x.x-index c.loop-x-test.true (sym c.if-not-is_finite.ensures.value) c.loop-x.invariant
 
 pub returns : goal.returns
 returns c = finite_all c.args.xs.now c.loop-x.x-index (omega arith) c.loop-x.invariant

@@ -4,8 +4,8 @@ use lib.Ieee.Bits.{nan_bits_above}
 use Rattle.std.proofs.Common.{rules}
 use Rattle.geometry.proofs.numbers.number_at.Goals as goal
 
-pub float-from-bits-result : goal.float-from-bits-result
-float-from-bits-result c = rw (nan_bits_above binary32 c.args.bits) (search rules)
+pub float_from_bits-result : goal.float_from_bits-result
+float_from_bits-result c = rw (nan_bits_above binary32 c.args.bits) (search rules)
 
 pub returns-then-bits-gt-INFINITY : goal.returns-then-bits-gt-INFINITY
 returns-then-bits-gt-INFINITY c = rw (nan_bits_above binary32 c.args.bits) (search rules)

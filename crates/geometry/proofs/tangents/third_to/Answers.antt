@@ -11,5 +11,5 @@ returns c =
     let b : T (fits binary32 c.args.q) = search rules in
     record {
       value = search rules;
-      number = λ h k. subst (λ (z : Float). T (float_is_finite (add binary32 c.args.p z))) (sym c.third-of.ensures) (stays_finite c.args.p c.args.q a b h k);
+      number = λ h k. subst (λ (z : Float). T (float_is_finite (add binary32 c.args.p z))) (sym c.third_of.ensures) (stays_finite c.args.p c.args.q a b h k);
     }

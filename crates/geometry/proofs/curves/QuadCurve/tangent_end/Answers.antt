@@ -5,9 +5,9 @@ use Rattle.geometry.specs.Segments.{tangent_end}
 use Rattle.geometry.proofs.Tangency.{stays}
 use Rattle.geometry.proofs.curves.QuadCurve.tangent_end.Goals as goal
 
-pub returns-in-default : goal.returns-in-default
+pub returns-in_default : goal.returns-in_default
 unfolding tangent_end
-returns-in-default c = record { value = search rules; finite = λ f g. tt }
+returns-in_default c = record { value = search rules; finite = λ f g. tt }
 
 pub returns : goal.returns
 unfolding tangent_end
