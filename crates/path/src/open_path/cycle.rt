@@ -99,7 +99,7 @@ impl OpenPath {
     }
 
     // Closes the subpath.
-    #[cycle(close_insert_marker_leave_line_to_move_to_open_subpath_quad_to)]
+    #[cycle(path_calls)]
     pub(super) fn close(&mut self, tags: &mut [PathTag], words: &mut [u32])
         requires { Ready close_rule (lent self.old tags.old words.old) }
         ensures { Does close_rule (lent self.old tags.old words.old) (lent self.new tags.new words.new) }
@@ -121,7 +121,7 @@ impl OpenPath {
     }
 
     // Marks the end of a stroke's subpath, which is closed or open.
-    #[cycle(close_insert_marker_leave_line_to_move_to_open_subpath_quad_to)]
+    #[cycle(path_calls)]
     fn insert_marker(&mut self, tags: &mut [PathTag], words: &mut [u32], is_closed: bool)
         requires ready { Ready (put_marker is_closed) (lent self.old tags.old words.old) }
         requires stroke { self.old.is_fill ≡ false }
@@ -138,7 +138,7 @@ impl OpenPath {
     }
 
     // Leaves the subpath: a fill closes it, and a stroke marks it as open.
-    #[cycle(close_insert_marker_leave_line_to_move_to_open_subpath_quad_to)]
+    #[cycle(path_calls)]
     fn leave(&mut self, tags: &mut [PathTag], words: &mut [u32])
         requires { Ready leave (lent self.old tags.old words.old) }
         ensures { Does leave (lent self.old tags.old words.old) (lent self.new tags.new words.new) }
@@ -158,7 +158,7 @@ impl OpenPath {
     }
 
     // Begins another subpath.
-    #[cycle(close_insert_marker_leave_line_to_move_to_open_subpath_quad_to)]
+    #[cycle(path_calls)]
     pub(super) fn move_to(&mut self, tags: &mut [PathTag], words: &mut [u32], p: Point)
         requires { Ready (move_to p) (lent self.old tags.old words.old) }
         ensures { Does (move_to p) (lent self.old tags.old words.old) (lent self.new tags.new words.new) }
@@ -168,7 +168,7 @@ impl OpenPath {
     }
 
     // Sees that a subpath is open for a segment to `end`: false if the segment is a move.
-    #[cycle(close_insert_marker_leave_line_to_move_to_open_subpath_quad_to)]
+    #[cycle(path_calls)]
     fn open_subpath(&mut self, tags: &mut [PathTag], words: &mut [u32], end: Point) -> bool
         requires { Ready (opened end) (lent self.old tags.old words.old) }
         ensures draws { result ≡ draws (view (lent self.old tags.old words.old)) }
@@ -190,7 +190,7 @@ impl OpenPath {
     }
 
     // Draws a line.
-    #[cycle(close_insert_marker_leave_line_to_move_to_open_subpath_quad_to)]
+    #[cycle(path_calls)]
     pub(super) fn line_to(&mut self, tags: &mut [PathTag], words: &mut [u32], p: Point)
         requires { Ready (segment_to (Of.Line p)) (lent self.old tags.old words.old) }
         ensures { Does (segment_to (Of.Line p)) (lent self.old tags.old words.old) (lent self.new tags.new words.new) }
@@ -212,7 +212,7 @@ impl OpenPath {
     }
 
     // Draws a quadratic.
-    #[cycle(close_insert_marker_leave_line_to_move_to_open_subpath_quad_to)]
+    #[cycle(path_calls)]
     pub(super) fn quad_to(&mut self, tags: &mut [PathTag], words: &mut [u32], p: Point, q: Point)
         requires { Ready (segment_to (Of.Quad p q)) (lent self.old tags.old words.old) }
         ensures { Does (segment_to (Of.Quad p q)) (lent self.old tags.old words.old) (lent self.new tags.new words.new) }

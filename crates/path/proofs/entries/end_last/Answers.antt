@@ -6,5 +6,5 @@ use Rattle.path.proofs.entries.end_last.Goals as goal
 
 pub returns : goal.returns
 returns c =
-    ap (λ (t : PathTag). take c.args.n (set c.args.tags.now (c.args.n - 1) t)) c.set-subpath-end.ensures
+    ap (λ (t : PathTag). take c.args.n (set c.args.tags.now (c.args.n - 1) t)) c.set_subpath_end.ensures
     ∙ end_last-take c.args.tags.now c.args.n c.requires.0 c.requires.1

@@ -5,21 +5,21 @@ use Rattle.path.proofs.entries.end_path.Goals as goal
 
 pub returns-then-n-eq0 : goal.returns-then-n-eq0
 returns-then-n-eq0 c =
-    let e : Ends c.args.insert-path-marker c.args.tags.now c.args.tags.now c.args.n 0 = end_none c.args.insert-path-marker c.args.tags.now c.args.n (omega arith) c.requires.fits in
+    let e : Ends c.args.insert_path_marker c.args.tags.now c.args.tags.now c.args.n 0 = end_none c.args.insert_path_marker c.args.tags.now c.args.n (omega arith) c.requires.fits in
     record { used = e.used; holds = e.holds }
 
 pub bounds-tags-n : goal.bounds-tags-n
 bounds-tags-n c =
-    let h = end-room c.args.insert-path-marker c.args.tags.now c.args.n c.if-insert-path-marker.true (omega arith) c.requires.fits c.requires.room in
+    let h = end-room c.args.insert_path_marker c.args.tags.now c.args.n c.if-insert_path_marker.true (omega arith) c.requires.fits c.requires.room in
     omega arith
 
-pub returns-then-insert-path-marker : goal.returns-then-insert-path-marker
-returns-then-insert-path-marker c =
-    let h = end-room c.args.insert-path-marker c.args.tags.now c.args.n c.if-insert-path-marker.true (omega arith) c.requires.fits c.requires.room in
-    let e = end-tag c.args.insert-path-marker c.args.tags.now c.end_last.new.tags c.args.n c.if-insert-path-marker.true (omega arith) c.requires.fits (omega arith) c.end_last.ensures in
+pub returns-then-insert_path_marker : goal.returns-then-insert_path_marker
+returns-then-insert_path_marker c =
+    let h = end-room c.args.insert_path_marker c.args.tags.now c.args.n c.if-insert_path_marker.true (omega arith) c.requires.fits c.requires.room in
+    let e = end-tag c.args.insert_path_marker c.args.tags.now c.end_last.new.tags c.args.n c.if-insert_path_marker.true (omega arith) c.requires.fits (omega arith) c.end_last.ensures in
     record { used = e.used; holds = e.holds }
 
 pub returns : goal.returns
 returns c =
-    let e = end_plain c.args.insert-path-marker c.args.tags.now c.end_last.new.tags c.args.n c.if-insert-path-marker.false (omega arith) c.requires.fits c.end_last.ensures in
+    let e = end_plain c.args.insert_path_marker c.args.tags.now c.end_last.new.tags c.args.n c.if-insert_path_marker.false (omega arith) c.requires.fits c.end_last.ensures in
     record { used = e.used; holds = e.holds }

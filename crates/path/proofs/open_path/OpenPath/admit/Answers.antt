@@ -3,5 +3,5 @@ use Rattle.path.specs.View.{lent}
 use Rattle.path.proofs.Answering.{said-roomy}
 use Rattle.path.proofs.open_path.OpenPath.admit.Goals as goal
 
-pub returns-then-is-roomy : goal.returns-then-is-roomy
-returns-then-is-roomy c = said-roomy c.args.call (lent c.args.self.now c.args.tags.now c.args.words.now) c.if-is-roomy.ensures
+pub returns-then-is_roomy : goal.returns-then-is_roomy
+returns-then-is_roomy c = said-roomy c.args.call (lent c.args.self.now c.args.tags.now c.args.words.now) c.if-is_roomy.ensures

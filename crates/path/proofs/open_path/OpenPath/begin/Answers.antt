@@ -4,8 +4,8 @@ use Rattle.path.specs.View.{lent}
 use Rattle.path.proofs.Steps.{Spare, spare_begin}
 use Rattle.path.proofs.open_path.OpenPath.begin.Goals as goal
 
-pub write-point-self-requires : goal.write-point-self-requires
-write-point-self-requires c = (spare_begin c.args.p (lent c.args.self.now c.args.tags.now c.args.words.now) c.requires).words
+pub write_point-self-requires : goal.write_point-self-requires
+write_point-self-requires c = (spare_begin c.args.p (lent c.args.self.now c.args.tags.now c.args.words.now) c.requires).words
 
 pub returns : goal.returns
 returns c =

@@ -6,10 +6,10 @@ use Rattle.path.proofs.Cases.{draw-first, draw_later}
 use Rattle.path.proofs.Steps.{as_rule, ready_as, room_as, point_held}
 use Rattle.path.proofs.open_path.OpenPath.draw.Goals as goal
 
-pub returns-in-default-tangent-end : goal.returns-in-default-tangent-end
-returns-in-default-tangent-end g c =
+pub returns-in_default-tangent_end : goal.returns-in_default-tangent_end
+returns-in_default-tangent_end g c =
     let a = lent c.args.self.now c.args.tags.now c.args.words.now in
-    record { shows = sym (draw-first (g.C.Curve.segment c.args.s) (view a) None c.in-MoveTo.is (sym c.in-default-tangent-end.ensures.value)); kept = c.requires.ready.held }
+    record { shows = sym (draw-first (g.C.Curve.segment c.args.s) (view a) None c.in-MoveTo.is (sym c.in_default-tangent_end.ensures.value)); kept = c.requires.ready.held }
 
 pub put-requires : goal.put-requires
 put-requires g c =
@@ -23,19 +23,19 @@ put-requires g c =
       point = search rules;
     }
 
-pub put-requires-in-default : goal.put-requires-in-default
-put-requires-in-default g c =
+pub put-requires-in_default : goal.put-requires-in_default
+put-requires-in_default g c =
     let a = lent c.args.self.now c.args.tags.now c.args.words.now in
     let s = g.C.Curve.segment c.args.s in
-    record { ready = ready_as (draw s) (put s) a (draw_later s (view a) c.requires.begun c.in-default.not-MoveTo) c.requires.ready; point = point_held c.args.self.now c.requires.begun }
+    record { ready = ready_as (draw s) (put s) a (draw_later s (view a) c.requires.begun c.in_default.not-MoveTo) c.requires.ready; point = point_held c.args.self.now c.requires.begun }
 
 pub returns-in-Some : goal.returns-in-Some
 returns-in-Some g c =
     let a = lent c.args.self.now c.args.tags.now c.args.words.now in
     record { shows = c.put.ensures.shows ∙ sym (draw-first (g.C.Curve.segment c.args.s) (view a) (Some c.in-Some.t) c.in-MoveTo.is (sym c.in-Some.ensures.value)); kept = c.put.ensures.kept }
 
-pub returns-in-default : goal.returns-in-default
-returns-in-default g c =
+pub returns-in_default : goal.returns-in_default
+returns-in_default g c =
     let a = lent c.args.self.now c.args.tags.now c.args.words.now in
     let s = g.C.Curve.segment c.args.s in
-    as_rule (put s) (draw s) a _ (sym (draw_later s (view a) c.requires.begun c.in-default.not-MoveTo)) c.put-in-default.ensures
+    as_rule (put s) (draw s) a _ (sym (draw_later s (view a) c.requires.begun c.in_default.not-MoveTo)) c.put-in_default.ensures

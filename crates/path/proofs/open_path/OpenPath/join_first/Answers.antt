@@ -9,8 +9,8 @@ use Rattle.path.proofs.Cases.{join-there, join_apart}
 use Rattle.path.proofs.Steps.{as_rule, ready_as}
 use Rattle.path.proofs.open_path.OpenPath.join_first.Goals as goal
 
-pub returns-then-is-same-point : goal.returns-then-is-same-point
-returns-then-is-same-point c =
+pub returns-then-is_same_point : goal.returns-then-is_same_point
+returns-then-is_same_point c =
     let a = lent c.args.self.now c.args.tags.now c.args.words.now in
     let h : same_point (last_point (take c.args.self.now.words c.args.words.now)) c.args.self.now.first_point ≡ true = cc in
     record { shows = sym (join-there (view a) h); kept = c.requires.ready.held }

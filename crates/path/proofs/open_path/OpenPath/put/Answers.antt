@@ -8,8 +8,8 @@ use Rattle.path.proofs.Cases.{put-short, put_long}
 use Rattle.path.proofs.Steps.{as_rule, ready_as}
 use Rattle.path.proofs.open_path.OpenPath.put.Goals as goal
 
-pub returns-then-is-short : goal.returns-then-is-short
-returns-then-is-short g c =
+pub returns-then-is_short : goal.returns-then-is_short
+returns-then-is_short g c =
     let a = lent c.args.self.now c.args.tags.now c.args.words.now in
     let s = g.C.Curve.segment c.args.s in
     let h : too_short (last_point (take c.args.self.now.words c.args.words.now)) (g.C.Curve.segment c.args.s) ≡ true = cc in

@@ -13,8 +13,8 @@ pub returns : goal.returns
 returns c =
     let a = lent c.args.self.now c.args.tags.now c.args.words.now in
     let front : Own = record { tags = take (c.args.self.now.tags - c.min-t.result) c.args.tags.now; words = take (c.args.self.now.words - c.min-w.result) c.args.words.now } in
-    let x = c.copy-last.ensures in
-    let y = c.copy-last-2.ensures in
+    let x = c.copy_last.ensures in
+    let y = c.copy_last-2.ensures in
     let p : length (take (c.args.self.now.tags - c.min-t.result) c.args.tags.now) ≡ c.args.self.now.tags - c.min-t.result = length-take-le _ c.args.tags.now (omega arith) in
     let q : length (take (c.args.self.now.words - c.min-w.result) c.args.words.now) ≡ c.args.self.now.words - c.min-w.result = length-take-le _ c.args.words.now (omega arith) in
     lengths c.args.call a _ _ front _ _ c.run.ensures (cc) (record { tags = omega arith; words = omega arith }) (omega arith) (omega arith) (omega arith)

@@ -5,11 +5,11 @@ use Rattle.path.specs.View.{lent}
 use Rattle.path.proofs.Steps.{Spare, spare_write}
 use Rattle.path.proofs.open_path.OpenPath.write.Goals as goal
 
-pub write-points-self-requires : goal.write-points-self-requires
-write-points-self-requires g c = (spare_write (g.C.Curve.segment c.args.s) (lent c.args.self.now c.args.tags.now c.args.words.now) c.requires).words
+pub write_points-self-requires : goal.write_points-self-requires
+write_points-self-requires g c = (spare_write (g.C.Curve.segment c.args.s) (lent c.args.self.now c.args.tags.now c.args.words.now) c.requires).words
 
-pub write-tag-self-requires : goal.write-tag-self-requires
-write-tag-self-requires g c =
+pub write_tag-self-requires : goal.write_tag-self-requires
+write_tag-self-requires g c =
     let s : Spare (lent c.args.self.now c.args.tags.now c.args.words.now) 1 (length (segment_words (g.C.Curve.segment c.args.s))) = spare_write (g.C.Curve.segment c.args.s) _ c.requires in
     omega arith
 
