@@ -6,6 +6,6 @@ use Rattle.encoding.proofs.encoding.Encoding.encode_blurred_rounded_rect.Goals a
 
 pub returns : goal.returns
 returns c =
-    subst (λ (k : Rule Nothing). OnDraws k c.args.self.now c.args.draw_tags.now c.args.draw_data.now c.encode-draw.result c.encode-draw.new.self c.encode-draw.new.draw_tags c.encode-draw.new.draw_data)
-    (λ i. draw_rule (c.all-finite-is-finite.ensures i) blur_tag (c.args.color ∷ c.f32-to-bits-with-nan.ensures i ∷ c.f32-to-bits-with-nan-2.ensures i ∷ c.f32-to-bits-with-nan-3.ensures i ∷ c.f32-to-bits-with-nan-4.ensures i ∷ []) (λ d. d))
-    c.encode-draw.ensures.answered
+    subst (λ (k : Rule Nothing). OnDraws k c.args.self.now c.args.draw_tags.now c.args.draw_data.now c.encode_draw.result c.encode_draw.new.self c.encode_draw.new.draw_tags c.encode_draw.new.draw_data)
+    (λ i. draw_rule (c.all_finite-is_finite.ensures i) blur_tag (c.args.color ∷ c.f32_to_bits_with_nan.ensures i ∷ c.f32_to_bits_with_nan-2.ensures i ∷ c.f32_to_bits_with_nan-3.ensures i ∷ c.f32_to_bits_with_nan-4.ensures i ∷ []) (λ d. d))
+    c.encode_draw.ensures.answered

@@ -9,5 +9,5 @@ use Rattle.encoding.proofs.path_encoder.PathEncoder.line_to.Goals as goal
 pub returns : goal.returns
 returns c =
     subst (λ (k : Rule Nothing). OnPath k c.args.self.now c.args.path_tags.now c.args.path_data.now c.take.result c.take.new.self c.take.new.path_tags c.take.new.path_data)
-    (λ i. step_rule (c.all-finite-is-finite.ensures i) (Draw (Line (c.point_of.ensures i))))
+    (λ i. step_rule (c.all_finite-is_finite.ensures i) (Draw (Line (c.point_of.ensures i))))
     c.take.ensures

@@ -11,13 +11,13 @@ use Rattle.encoding.proofs.Reasons.{told-some, not_admitted, passed_finite}
 use Rattle.encoding.proofs.OpenPaths.{lending, took}
 use Rattle.encoding.proofs.path_encoder.PathEncoder.take.Goals as goal
 
-pub returns-in-err-admit : goal.returns-in-err-admit
-returns-in-err-admit g c = λ m.
+pub returns-in_err-admit : goal.returns-in_err-admit
+returns-in_err-admit g c = λ m.
     let was = with_paths m c.args.path_tags.now c.args.path_data.now in
-    let p = err_from_is_err_and c.from-residual.result c.from-residual.ensures.1 in
-    let e = c.in-err-admit.field-0.0 in
-    not_admitted (step_rule c.args.is-finite (g.S.PathStep.step c.args.step)) (path_sheet c.args.self.now was) was _ e (p.1 ∙ ap Err p.2)
-    (told-some _ e _ c.in-err-admit.ensures.says)
+    let p = err_from_is_err_and c.from_residual.result c.from_residual.ensures.1 in
+    let e = c.in_err-admit.field-0.0 in
+    not_admitted (step_rule c.args.is_finite (g.S.PathStep.step c.args.step)) (path_sheet c.args.self.now was) was _ e (p.1 ∙ ap Err p.2)
+    (told-some _ e _ c.in_err-admit.ensures.says)
 
 pub returns : goal.returns
 returns g c = λ m.
@@ -25,16 +25,16 @@ returns g c = λ m.
     let o = c.args.self.now.path in
     let ts = c.args.path_tags.now in
     let ws = c.args.path_data.now in
-    let z = c.min-tags-end.result in
-    let y = c.min-words-end.result in
+    let z = c.min-tags_end.result in
+    let y = c.min-words_end.result in
     let o' = c.take-answer.new.path in
     let tp = c.take-answer.new.tags in
     let wp = c.take-answer.new.words in
-    let l = lending c.args.self.now ts ws z y c.in-ok-admit.ensures.passed
-    (omega (arith, c.min-tags-end.ensures, c.max_entries.ensures)) (omega (arith, c.min-words-end.ensures, c.max-entries-2.ensures)) in
+    let l = lending c.args.self.now ts ws z y c.in_ok-admit.ensures.passed
+    (omega (arith, c.min-tags_end.ensures, c.max_entries.ensures)) (omega (arith, c.min-words_end.ensures, c.max_entries-2.ensures)) in
     let x = g.S.PathStep.step c.args.step in
-    let finite : c.args.is-finite ≡ true = passed_finite _ c.args.is-finite _ _ c.in-ok-admit.ensures.says in
+    let finite : c.args.is_finite ≡ true = passed_finite _ c.args.is_finite _ _ c.in_ok-admit.ensures.says in
     let left = with_paths m (put_mid e.path_tags (z - e.path_tags) ts tp) (put_mid e.path_data (y - e.path_data) ws wp) in
-    subst (λ (r : Result Nothing EncodeError). Answered (step_rule c.args.is-finite x) (open_sheet e o (with_paths m ts ws)) (with_paths m ts ws) r (open_sheet e o' left)) (sym c.relay.ensures)
+    subst (λ (r : Result Nothing EncodeError). Answered (step_rule c.args.is_finite x) (open_sheet e o (with_paths m ts ws)) (with_paths m ts ws) r (open_sheet e o' left)) (sym c.relay.ensures)
     (subst (λ (f : Bool). Answered (step_rule f x) (open_sheet e o (with_paths m ts ws)) (with_paths m ts ws) (relayed c.take-answer.result) (open_sheet e o' left)) (sym finite)
     (took e o ts ws z y m l o' tp wp x c.take-answer.result c.take-answer.ensures))

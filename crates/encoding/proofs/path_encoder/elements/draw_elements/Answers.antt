@@ -24,7 +24,7 @@ loop-index-preserved c m =
     let l = c.loop-index in
     let was = with_paths m l.path_tags l.path_data in
     let s = path_sheet l.path was in
-    let t = took (element_rule _) s was c.in-default.field-0 _ (c.in-default.ensures m) in
+    let t = took (element_rule _) s was c.in_default.field-0 _ (c.in_default.ensures m) in
     let same = reason-same m l.path_tags c.args.path_tags.now l.path_data c.args.path_data.now l.auto.path_tags l.auto.path_data (element_rule _) s in
     along-more c.args.elements.now l.index _ _ c.loop-index-test.true refl _ _ s (l.invariant m) _ (sym same ∙ t.0) t.1
 
