@@ -8,6 +8,7 @@ mod report;
 use crate::input::read_sheet;
 use crate::report::{count, print_counts};
 use std::io;
+use std::process::ExitCode;
 
 fn run(rt: &HostRuntime) -> anyhow::Result<()> {
     let heap = rt.alloc();
@@ -18,10 +19,12 @@ fn run(rt: &HostRuntime) -> anyhow::Result<()> {
     Ok(())
 }
 
-fn main(rt: HostRuntime) -> anyhow::Result<()> {
-    let Err(e) = run(&rt) else {
-        return Ok(());
-    };
-    eprintln!(rt; "{e}")?;
-    Err(e)
+fn main(rt: HostRuntime) -> ExitCode {
+    match run(&rt) {
+        Ok(()) => ExitCode::SUCCESS,
+        Err(e) => {
+            let _ = eprintln!(rt; "{e}");
+            ExitCode::FAILURE
+        }
+    }
 }

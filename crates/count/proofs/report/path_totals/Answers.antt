@@ -5,6 +5,6 @@ use Rattle.count.proofs.report.path_totals.Goals as goal
 
 pub returns : goal.returns
 returns c =
-    c.in-ok-reduce.ensures.reduces.1
-    ∙ ap (reduced none plus from_word) c.as-slice.ensures.value
-    ∙ c.in-ok-words.ensures.counts
+    c.in_ok-reduce.ensures.reduces.1
+    ∙ ap (reduced none plus from_word) c.as_slice.ensures.value
+    ∙ c.in_ok-words.ensures.counts

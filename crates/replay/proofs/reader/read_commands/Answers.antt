@@ -7,8 +7,8 @@ use Rattle.replay.specs.Reading.{eight_at}
 use Rattle.replay.proofs.Reading.{Filled, CommandRow, filled_more, draws-more, draws-fit, command_row, commands-done}
 use Rattle.replay.proofs.reader.read_commands.Goals as goal
 
-pub combine-fitting-before-requires : goal.combine-fitting-before-requires
-combine-fitting-before-requires c =
+pub combine_fitting-before-requires : goal.combine_fitting-before-requires
+combine_fitting-before-requires c =
     let l = c.loop-i in
     let few : length c.args.draw_tags.now ≤ most = omega arith in
     subst (λ (x : Draws.Draws). Draws.Small (Draws.plus (draws_of l.before) x)) (sym c.new-own.ensures)
@@ -22,10 +22,10 @@ loop-i-preserved c =
     let ws = c.args.draw_data.now in
     let own : draws_of c.new-own.result ≡ Draws.from_tag (get_or ts l.i (record { 0 = 0 })) = c.new-own.ensures in
     let size = ap (λ (x : Draws.Draws). x.words) own in (
-      c.combine-fitting-before.ensures ∙ ap (Draws.plus (draws_of l.before)) own ∙ draws-more c.args.draw_tags.now l.i _ c.loop-i-test.true few (draws_of l.before) l.invariant.0,
+      c.combine_fitting-before.ensures ∙ ap (Draws.plus (draws_of l.before)) own ∙ draws-more c.args.draw_tags.now l.i _ c.loop-i-test.true few (draws_of l.before) l.invariant.0,
       subst (λ (r : List ShownCommand). Filled (CommandRow ts ws) c.args.table.now r (l.i + 1)) (sym c.put.ensures)
           (filled_more (CommandRow ts ws) c.args.table.now l.table l.i _ l.invariant.1
-          (command_row ts ws l.i (record { 0 = 0 }) (draws_of l.before) c.eight-at-words.result l.invariant.0 (c.eight-at-words.ensures ∙ ap (eight_at ws l.before.scene_offset) size))),
+          (command_row ts ws l.i (record { 0 = 0 }) (draws_of l.before) c.eight_at-words.result l.invariant.0 (c.eight_at-words.ensures ∙ ap (eight_at ws l.before.scene_offset) size))),
     )
 
 pub returns : goal.returns

@@ -7,13 +7,13 @@ use Rattle.replay.proofs.Shown.{total}
 use Rattle.replay.proofs.Reading.{Filled, SegmentRow, tags_more, tags-fit, segments-more, segments-done, alone, few-segments}
 use Rattle.replay.proofs.reader.read_segments.Goals as goal
 
-pub overflow-cast-before : goal.overflow-cast-before
-overflow-cast-before c =
+pub overflow_cast-before : goal.overflow_cast-before
+overflow_cast-before c =
     let few : length c.args.path_tags.now ≤ most = omega arith in
     Fits-below {n = most} tt (few-segments c.args.path_tags.now c.loop-i.i c.loop-i.before.pathseg_ix few (ap (λ (x : Counts). x.segments) c.loop-i.invariant.0))
 
-pub combine-fitting-before-requires : goal.combine-fitting-before-requires
-combine-fitting-before-requires c =
+pub combine_fitting-before-requires : goal.combine_fitting-before-requires
+combine_fitting-before-requires c =
     let l = c.loop-i in
     let ts = c.args.path_tags.now in
     let few : length ts ≤ most = omega arith in
@@ -28,12 +28,12 @@ loop-i-preserved c =
     let few : length ts ≤ most = omega arith in
     let byte : (get_or ts l.i blank).0 < 256 = search rules in
     let own : counts_of c.new.result ≡ from_tag (get_or ts l.i blank) = c.new.ensures ∙ alone (get_or ts l.i blank) byte in (
-      c.combine-fitting-before.ensures ∙ ap (plus (counts_of l.before)) own ∙ tags_more ts l.i blank c.loop-i-test.true few (counts_of l.before) l.invariant.0,
-      segments-more ts c.args.path_data.now c.args.transforms.now c.args.styles.now c.args.table.now l.table l.i c.loop-i-test.true (counts_of l.before) l.invariant.0 c.segment-at-shown.result c.segment-at-shown.ensures l.invariant.1 c.put-segment.new.table c.put-segment.ensures,
+      c.combine_fitting-before.ensures ∙ ap (plus (counts_of l.before)) own ∙ tags_more ts l.i blank c.loop-i-test.true few (counts_of l.before) l.invariant.0,
+      segments-more ts c.args.path_data.now c.args.transforms.now c.args.styles.now c.args.table.now l.table l.i c.loop-i-test.true (counts_of l.before) l.invariant.0 c.segment_at-shown.result c.segment_at-shown.ensures l.invariant.1 c.put_segment.new.table c.put_segment.ensures,
     )
 
-pub overflow-cast-result : goal.overflow-cast-result
-overflow-cast-result c =
+pub overflow_cast-result : goal.overflow_cast-result
+overflow_cast-result c =
     let few : length c.args.path_tags.now ≤ most = omega arith in
     Fits-below {n = most} tt (few-segments c.args.path_tags.now c.loop-i.i c.loop-i.before.pathseg_ix few (ap (λ (x : Counts). x.segments) c.loop-i.invariant.0))
 

@@ -18,49 +18,49 @@ returns-in-Reset c =
 pub returns-in-ForceNext : goal.returns-in-ForceNext
 returns-in-ForceNext c =
     let m = six c.args.path_tags.now c.args.path_data.now c.args.draw_tags.now c.args.draw_data.now c.args.transforms.now c.args.styles.now in
-    by c.in-ForceNext.is (record { so = (refl, c.force-next-transform-and-style.ensures m) })
+    by c.in-ForceNext.is (record { so = (refl, c.force_next_transform_and_style.ensures m) })
 
 pub returns-in-Transform : goal.returns-in-Transform
 returns-in-Transform c =
     let m = six c.args.path_tags.now c.args.path_data.now c.args.draw_tags.now c.args.draw_data.now c.args.transforms.now c.args.styles.now in
-    by c.in-Transform.is (record { so = (c.encode-transform.result, c.said.ensures, c.encode-transform.ensures m) })
+    by c.in-Transform.is (record { so = (c.encode_transform.result, c.said.ensures, c.encode_transform.ensures m) })
 
 pub returns-in-FillStyle : goal.returns-in-FillStyle
 returns-in-FillStyle c =
     let m = six c.args.path_tags.now c.args.path_data.now c.args.draw_tags.now c.args.draw_data.now c.args.transforms.now c.args.styles.now in
-    by c.in-FillStyle.is (record { so = (c.encode-fill-style.result, c.done.ensures, c.encode-fill-style.ensures m) })
+    by c.in-FillStyle.is (record { so = (c.encode_fill_style.result, c.done.ensures, c.encode_fill_style.ensures m) })
 
 pub returns-in-StrokeStyle : goal.returns-in-StrokeStyle
 returns-in-StrokeStyle c =
     let m = six c.args.path_tags.now c.args.path_data.now c.args.draw_tags.now c.args.draw_data.now c.args.transforms.now c.args.styles.now in
-    by c.in-StrokeStyle.is (record { so = (let e = c.encode-stroke-style.ensures in let f : T (fits binary32 c.in-StrokeStyle.stroke.width) = search rules in (e.0, (e.1, f), (c.encode-stroke-style.result, c.said-in-StrokeStyle.ensures, e.2 m))) })
+    by c.in-StrokeStyle.is (record { so = (let e = c.encode_stroke_style.ensures in let f : T (fits binary32 c.in-StrokeStyle.stroke.width) = search rules in (e.0, (e.1, f), (c.encode_stroke_style.result, c.said-in-StrokeStyle.ensures, e.2 m))) })
 
 pub returns-in-Color : goal.returns-in-Color
 returns-in-Color c =
     let m = six c.args.path_tags.now c.args.path_data.now c.args.draw_tags.now c.args.draw_data.now c.args.transforms.now c.args.styles.now in
-    by c.in-Color.is (record { so = (c.encode-color.result, c.done-in-Color.ensures, c.encode-color.ensures m) })
+    by c.in-Color.is (record { so = (c.encode_color.result, c.done-in-Color.ensures, c.encode_color.ensures m) })
 
 pub returns-in-BlurredRoundedRect : goal.returns-in-BlurredRoundedRect
 returns-in-BlurredRoundedRect c =
     let m = six c.args.path_tags.now c.args.path_data.now c.args.draw_tags.now c.args.draw_data.now c.args.transforms.now c.args.styles.now in
-    by c.in-BlurredRoundedRect.is (record { so = (c.encode-blurred-rounded-rect.result, c.done-in-BlurredRoundedRect.ensures, c.encode-blurred-rounded-rect.ensures m) })
+    by c.in-BlurredRoundedRect.is (record { so = (c.encode_blurred_rounded_rect.result, c.done-in-BlurredRoundedRect.ensures, c.encode_blurred_rounded_rect.ensures m) })
 
 pub returns-in-BeginClip : goal.returns-in-BeginClip
 returns-in-BeginClip c =
     let m = six c.args.path_tags.now c.args.path_data.now c.args.draw_tags.now c.args.draw_data.now c.args.transforms.now c.args.styles.now in
-    by c.in-BeginClip.is (record { so = (c.encode-begin-clip.result, c.done-in-BeginClip.ensures, c.encode-begin-clip.ensures m) })
+    by c.in-BeginClip.is (record { so = (c.encode_begin_clip.result, c.done-in-BeginClip.ensures, c.encode_begin_clip.ensures m) })
 
 pub returns-in-EndClip : goal.returns-in-EndClip
 returns-in-EndClip c =
     let m = six c.args.path_tags.now c.args.path_data.now c.args.draw_tags.now c.args.draw_data.now c.args.transforms.now c.args.styles.now in
-    by c.in-EndClip.is (record { so = (c.encode-end-clip.result, c.done-in-EndClip.ensures, c.encode-end-clip.ensures m) })
+    by c.in-EndClip.is (record { so = (c.encode_end_clip.result, c.done-in-EndClip.ensures, c.encode_end_clip.ensures m) })
 
 pub returns-in-EmptyShape : goal.returns-in-EmptyShape
 returns-in-EmptyShape c =
     let m = six c.args.path_tags.now c.args.path_data.now c.args.draw_tags.now c.args.draw_data.now c.args.transforms.now c.args.styles.now in
-    by c.in-EmptyShape.is (record { so = (c.encode-empty-shape.result, c.done-in-EmptyShape.ensures, c.encode-empty-shape.ensures m) })
+    by c.in-EmptyShape.is (record { so = (c.encode_empty_shape.result, c.done-in-EmptyShape.ensures, c.encode_empty_shape.ensures m) })
 
 pub returns-in-PathElements : goal.returns-in-PathElements
 returns-in-PathElements c =
     let m = six c.args.path_tags.now c.args.path_data.now c.args.draw_tags.now c.args.draw_data.now c.args.transforms.now c.args.styles.now in
-    by c.in-PathElements.is (record { so = (c.encode-path-elements.result, c.listed.ensures, c.encode-path-elements.ensures m) })
+    by c.in-PathElements.is (record { so = (c.encode_path_elements.result, c.listed.ensures, c.encode_path_elements.ensures m) })

@@ -6,4 +6,4 @@ use Rattle.replay.proofs.replay.call_closed.Goals as goal
 pub returns-in-Path : goal.returns-in-Path
 returns-in-Path c =
     let m = six c.args.path_tags.now c.args.path_data.now c.args.draw_tags.now c.args.draw_data.now c.args.transforms.now c.args.styles.now in
-    by_call c.in-Path.is (record { so = (refl, c.encode-path.ensures m) })
+    by_call c.in-Path.is (record { so = (refl, c.encode_path.ensures m) })
