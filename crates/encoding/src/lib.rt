@@ -4,3 +4,5 @@
 pub mod encoding;
 pub mod path_encoder;
 mod streams;
+
+pub use values::{element, error, style, transform};
