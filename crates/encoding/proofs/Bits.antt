@@ -1,5 +1,5 @@
 -- The bits of flags below 4. Assumes nothing.
-use Rattle.std.proofs.Common.{◌≡◌, ℕ, zero, suc, ◌<◌, true, false, not, eqb, refl, arith, lit<}
+use Rattle.std.proofs.Common.{◌≡◌, ℕ, zero, suc, ◌<◌, false, not, eqb, refl, arith, lit<}
 use lib.Bits.{bit_and}
 use Rattle.encoding.specs.Flags.{forces_transform, forces_style, Flags}
 

@@ -1,8 +1,7 @@
 -- A finish, over the sheet. Assumes nothing.
-use Rattle.std.proofs.Common.{◌≡◌, ℕ, ◌+◌, ◌-◌, ◌<◌, ◌≤◌, Bool, true, false, cond, eqb, ltb, List, [], ◌∷◌, ◌++◌, length, take, drop, Some, None, Ok, Err, Option, sym, refl, ap, ◌∙◌, subst, arith, length-take, length-take-le, le-ltb, eqb-true}
+use Rattle.std.proofs.Common.{◌≡◌, ℕ, ◌+◌, ◌-◌, ◌<◌, ◌≤◌, Bool, true, false, cond, eqb, List, [], ◌∷◌, ◌++◌, length, take, Some, None, Ok, Err, sym, refl, ap, ◌∙◌, arith, length-take, length-take-le, le-ltb, eqb-true}
 use lib.Seq.{take-append-le, take-append-add}
 use borrow.Rule.Slice.PartMut.{put_mid, post_of}
-use borrow.Author.Tests.{eqb-false}
 use Rattle.monoid.specs.declared.path.PathTag.{PathTag}
 use Rattle.path.specs.declared.open_path.OpenPath.{OpenPath}
 use Rattle.path.specs.declared.state.PathState.{PathState}
@@ -11,7 +10,7 @@ use Rattle.path.specs.declared.state.Call.TheVariants.{Finish}
 use Rattle.path.specs.declared.state.Declined.{Declined}
 use Rattle.path.specs.declared.state.Finished.{Finished}
 use Rattle.path.specs.declared.state.Used.{Used}
-use Rattle.path.specs.Entries.{drop_point, finished}
+use Rattle.path.specs.Entries.{drop_point}
 use Rattle.path.specs.Rules.{Path, leave, finish}
 use Rattle.path.specs.Space.{used_by, lacks}
 use Rattle.path.specs.View.{Lent, lent, view, Room}
@@ -23,10 +22,9 @@ use Rattle.path.proofs.Finish.{finished-none, length_some}
 use Rattle.path.proofs.Steps.{room_as, room-put, room-join, room_mark, room-close, tag_held}
 use Rattle.encoding.specs.declared.encoding.Encoding.{Encoding}
 use Rattle.values.specs.declared.error.Stream.TheVariants.{PathTags, PathData}
-use Rattle.values.specs.declared.error.EncodeError.{EncodeError}
 use Rattle.values.specs.Streams.{room, max_words, max_others}
-use Rattle.values.specs.Errors.{short, full, or_else, told}
-use Rattle.encoding.specs.Sheet.{Sheet, Streams, first, sheet, with_paths, with_open, with_outlines}
+use Rattle.values.specs.Errors.{full, or_else, told}
+use Rattle.encoding.specs.Sheet.{Sheet, Streams, sheet, with_paths, with_open, with_outlines}
 use Rattle.encoding.specs.Promises.{Rule, Answered, reason, rooms, left_by, own_path, open_sheet}
 use Rattle.encoding.specs.Rules.{added}
 use Rattle.encoding.specs.Paths.{counted, outlined, finish_rule}

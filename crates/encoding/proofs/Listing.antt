@@ -1,21 +1,19 @@
 -- Elements drawn one after the other. Assumes nothing.
-use Rattle.std.proofs.Common.{◌≡◌, ℕ, zero, suc, ◌+◌, ◌<◌, ◌≤◌, Bool, true, false, not, eqb, List, [], ◌∷◌, length, get_or, drop, Some, None, Ok, Err, Option, Result, sym, refl, ap, ◌∙◌, subst, arith}
+use Rattle.std.proofs.Common.{◌≡◌, ℕ, ◌+◌, ◌<◌, ◌≤◌, true, List, [], ◌∷◌, length, get_or, drop, Some, None, Ok, Err, Option, sym, refl, ap, ◌∙◌, arith}
 use Rattle.std.proofs.lemmas.List.{drop_more, drop_all}
 use Rattle.monoid.specs.declared.path.PathTag.{PathTag}
 use Rattle.encoding.specs.declared.encoding.Encoding.{Encoding}
-use Rattle.encoding.specs.declared.path_encoder.PathEncoder.{PathEncoder}
-use Rattle.values.specs.declared.element.ElementError.{ElementError}
 use Rattle.values.specs.declared.element.PathEl.{PathEl}
 use Rattle.values.specs.declared.element.PathEl.TheVariants.{MoveTo, LineTo, QuadTo, CurveTo, ClosePath}
 use Rattle.values.specs.declared.error.Stream.{Stream}
 use Rattle.values.specs.declared.error.Stream.TheVariants.{PathTags, PathData, DrawTags, DrawData, Transforms, Styles}
 use Rattle.values.specs.declared.error.EncodeError.{EncodeError}
-use Rattle.values.specs.Streams.{Room, room}
+use Rattle.values.specs.Streams.{room}
 use Rattle.values.specs.Errors.{short, full, or_else, told}
 use Rattle.encoding.specs.Sheet.{Streams, Sheet, used_in, space_in, with_paths}
 use Rattle.encoding.specs.Promises.{Rule, Answered, rooms, reason, left_by}
 use Rattle.encoding.specs.Paths.{path_abandoned, finish_rule}
-use Rattle.encoding.specs.Elements.{element_rule, after_elements, placed, first_placed, list_reason, list_told, list_leaves, all_told, DrawnOut, Listed, count_in, encoding_in}
+use Rattle.encoding.specs.Elements.{element_rule, after_elements, placed, first_placed, list_reason, list_leaves, all_told, DrawnOut}
 
 -- a reason depends on how long the streams are, and on nothing else of them
 module _ (m : Streams) (ts us : List PathTag) (ws vs : List ℕ) (same-tags : length ts ≡ length us) (same-words : length ws ≡ length vs) where

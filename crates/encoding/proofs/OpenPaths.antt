@@ -1,5 +1,5 @@
 -- A call on an open path, over the sheet. Assumes nothing.
-use Rattle.std.proofs.Common.{◌≡◌, ℕ, ◌+◌, ◌-◌, ◌≤◌, min, Bool, true, false, cond, ◌||◌, ltb, List, [], ◌∷◌, length, take, drop, Some, None, Ok, Err, Option, Result, sym, refl, ap, ◌∙◌, subst, arith, le-ltb}
+use Rattle.std.proofs.Common.{◌≡◌, ℕ, ◌+◌, ◌-◌, ◌≤◌, min, Bool, true, false, cond, ◌||◌, ltb, List, [], ◌∷◌, length, Some, None, Option, Result, sym, refl, ap, ◌∙◌, subst, arith, le-ltb}
 use borrow.Rule.Slice.PartMut.{put_mid}
 use Rattle.std.specs.List.{between}
 use Rattle.monoid.specs.declared.path.PathTag.{PathTag}
@@ -10,7 +10,7 @@ use Rattle.path.specs.declared.state.Call.TheVariants.{Take}
 use Rattle.path.specs.declared.state.Used.{Used}
 use Rattle.path.specs.declared.state.Stream.TheVariants as Of
 use Rattle.path.specs.declared.state.Declined.{Declined}
-use Rattle.path.specs.declared.state.Declined.TheVariants.{Short, Full}
+use Rattle.path.specs.declared.state.Declined.TheVariants.{Full}
 use Rattle.path.specs.Rules.{Path, call, step}
 use Rattle.path.specs.Space.{used_by, lacks}
 use Rattle.path.specs.View.{Lent, lent, view, Held, Does}
@@ -21,12 +21,12 @@ use Rattle.path.proofs.Copy.{own-used}
 use Rattle.encoding.specs.declared.encoding.Encoding.{Encoding}
 use Rattle.values.specs.declared.error.Stream.TheVariants.{PathTags, PathData}
 use Rattle.values.specs.declared.error.EncodeError.{EncodeError}
-use Rattle.values.specs.declared.error.EncodeError.TheVariants.{FullStream, NotFinite}
+use Rattle.values.specs.declared.error.EncodeError.TheVariants.{FullStream}
 use Rattle.encoding.specs.declared.path_encoder.PathEncoder.{PathEncoder}
 use Rattle.values.specs.Streams.{room, max_words, max_others}
-use Rattle.values.specs.Errors.{short, full, or_else, unless, told}
-use Rattle.encoding.specs.Sheet.{Sheet, Streams, first, sheet, with_paths, with_open}
-use Rattle.encoding.specs.Promises.{Rule, Answered, reason, rooms, left_by, own_path, open_sheet}
+use Rattle.values.specs.Errors.{short, full, or_else, told}
+use Rattle.encoding.specs.Sheet.{Streams, sheet, with_paths, with_open}
+use Rattle.encoding.specs.Promises.{Rule, Answered, reason, left_by, own_path, open_sheet}
 use Rattle.encoding.specs.Rules.{Nothing}
 use Rattle.encoding.specs.Paths.{whole, step_rule}
 use Rattle.encoding.specs.Inner.{relayed, error_of, tags_used, words_used}

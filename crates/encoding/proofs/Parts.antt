@@ -1,5 +1,5 @@
 -- The part of a stream that an open path is lent. Assumes nothing.
-use Rattle.std.proofs.Common.{◌≡◌, ℕ, ◌+◌, ◌-◌, ◌≤◌, min, Bool, true, false, ◌||◌, ltb, List, ◌++◌, length, take, drop, sym, refl, ap, ◌∙◌, arith, length-drop, length-take, length-take-le, take-take, drop_at, ltb-false, ltb-true, le-ltb, lt-ltb}
+use Rattle.std.proofs.Common.{◌≡◌, ℕ, ◌+◌, ◌-◌, ◌≤◌, min, Bool, true, false, ◌||◌, ltb, List, ◌++◌, length, take, drop, refl, ap, ◌∙◌, arith, length-drop, length-take-le, take-take, drop_at, ltb-false, ltb-true, le-ltb, lt-ltb}
 use lib.Seq.{take-append-le}
 use borrow.Rule.Slice.PartMut.{put_mid, post_of}
 use Rattle.std.specs.List.{between}

@@ -1,5 +1,5 @@
 -- The rules of an element list and of the empty shape. Assumes nothing.
-use Rattle.std.specs.Prelude.{◌≡◌, ℕ, ◌+◌, Bool, true, false, not, List, [], ◌∷◌, length, Some, None, Ok, Err, Option, Result, ◌==◌}
+use Rattle.std.specs.Prelude.{◌≡◌, ℕ, ◌+◌, Bool, true, not, List, [], ◌∷◌, Some, None, Ok, Err, Option, Result, ◌==◌}
 use Rattle.monoid.specs.PathTags.{tag}
 use Rattle.path.specs.Entries.{path_tag}
 use Rattle.monoid.specs.declared.path.PathTag.{PathTag}
@@ -10,7 +10,7 @@ use Rattle.values.specs.declared.element.PathEl.{PathEl}
 use Rattle.values.specs.declared.element.PathEl.TheVariants.{MoveTo, LineTo, QuadTo, CurveTo, ClosePath}
 use Rattle.values.specs.declared.error.Stream.TheVariants.{PathTags, PathData}
 use Rattle.values.specs.declared.error.EncodeError.{EncodeError}
-use Rattle.encoding.specs.Sheet.{Streams, Sheet, Outlines, sheet, with_paths, with_outlines}
+use Rattle.encoding.specs.Sheet.{Streams, Sheet, sheet, with_paths, with_outlines}
 use Rattle.encoding.specs.Promises.{Rule, reason, Answered, path_sheet}
 use Rattle.encoding.specs.Rules.{Nothing, added}
 use Rattle.encoding.specs.Paths.{move_rule, line_rule, quad_rule, cubic_rule, close_rule, finish_rule, path_opened, path_abandoned}

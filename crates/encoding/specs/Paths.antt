@@ -1,5 +1,5 @@
 -- The rules of an open path's calls, over the sheet. Assumes nothing.
-use Rattle.std.specs.Prelude.{ℕ, ◌+◌, Bool, true, cond, List, [], ◌∷◌, length, Some, None, Option, ◌==◌, Float}
+use Rattle.std.specs.Prelude.{ℕ, ◌+◌, Bool, true, cond, [], ◌∷◌, length, Some, None, Option, ◌==◌, Float}
 use Rattle.geometry.specs.Numbers.{all_finite}
 use Rattle.geometry.specs.Segments.{point_of}
 use Rattle.geometry.specs.declared.points.Segment.TheVariants.{Line, Quad, Cubic}

@@ -1,5 +1,5 @@
 -- What an Encoding and the six streams stand for: the sheet. Assumes nothing.
-use Rattle.std.specs.Prelude.{ℕ, ◌+◌, Bool, true, false, List, [], ◌++◌, length, take, Some, None, Option}
+use Rattle.std.specs.Prelude.{ℕ, ◌+◌, Bool, false, List, [], length, take, Some, None, Option}
 use Rattle.path.specs.Rules.{Path}
 use Rattle.monoid.specs.declared.path.PathTag.{PathTag}
 use Rattle.monoid.specs.declared.draw.DrawTag.{DrawTag}

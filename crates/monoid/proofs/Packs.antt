@@ -2,7 +2,7 @@
 use Rattle.std.proofs.Common.{◌≡◌, ℕ, zero, suc, ◌+◌, ◌-◌, ◌*◌, ◌/◌, ◌%◌, ◌^◌, ◌<◌, ◌≤◌, List, [], ◌∷◌, ◌++◌, length, get_or, take, drop, replicate, sym, refl, ap, ◌∙◌, append_assoc, arith, length-drop, take_all, rules}
 use Rattle.std.proofs.lemmas.Nat.{div-mul-add, mod-mul-add}
 use Rattle.monoid.specs.Laws.{Laws, reduced}
-use Rattle.monoid.specs.PathTags.{Counts, none, plus, bit, segment_type, from_tag, from_word, tag, tags_of}
+use Rattle.monoid.specs.PathTags.{Counts, none, plus, from_tag, from_word, tag}
 use Rattle.monoid.specs.Packing.{blank, byte, word, packed, Packs}
 use Rattle.monoid.specs.declared.path.PathTag.{PathTag}
 use Rattle.monoid.proofs.Reducing.{reduced-append}

@@ -1,8 +1,8 @@
 -- What the laws give of `reduced`, and of every bracketing. Assumes nothing.
-use Rattle.std.proofs.Common.{◌≡◌, ℕ, ◌+◌, ◌<◌, ◌≤◌, List, [], ◌∷◌, ◌++◌, length, get_or, take, Ok, Err, Result, sym, refl, ap, ◌∙◌, subst, arith, length-append, length-take}
+use Rattle.std.proofs.Common.{◌≡◌, ℕ, ◌+◌, ◌<◌, ◌≤◌, List, [], ◌∷◌, ◌++◌, length, get_or, take, Ok, Err, Result, sym, ap, ◌∙◌, subst, arith, length-append, length-take}
 use Rattle.std.proofs.lemmas.List.{take_more}
 use Rattle.monoid.specs.declared.CountError.{CountError}
-use Rattle.monoid.specs.Answers.{most, Combined}
+use Rattle.monoid.specs.Answers.{most}
 use Rattle.monoid.specs.Bracketings.{Bracketing, nothing, only, pair, leaves, Joins, Means, Gives}
 use Rattle.monoid.specs.Laws.{Laws, reduced}
 

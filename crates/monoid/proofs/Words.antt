@@ -1,5 +1,5 @@
 -- Four bytes side by side. Assumes nothing.
-use Rattle.std.proofs.Common.{◌≡◌, ℕ, zero, suc, ◌+◌, ◌*◌, ◌/◌, ◌%◌, ◌^◌, ◌<◌, ◌≤◌, Bool, true, false, cond, not, eqb, sym, refl, ap, ◌∙◌, add-zero, zero-mul, arith, pow-add, ne_eqb}
+use Rattle.std.proofs.Common.{◌≡◌, ℕ, zero, suc, ◌+◌, ◌*◌, ◌/◌, ◌%◌, ◌^◌, ◌<◌, ◌≤◌, cond, not, eqb, sym, refl, ap, ◌∙◌, add-zero, zero-mul, arith, pow-add, ne_eqb}
 use lib.Bits.{bit_and, and_block, and_lt, and_high, and_mask, and_zero_r}
 use lib.Count.{ones, ones_cat}
 use Rattle.std.proofs.lemmas.Nat.{shr-shr, shr_split, pow_pos, mul-le, div-mul-add, mod-mul-add}

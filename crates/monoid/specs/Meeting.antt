@@ -1,5 +1,5 @@
 -- Which begin an end meets. Assumes nothing.
-use Rattle.std.specs.Prelude.{◌≡◌, ℕ, suc, ◌+◌, ◌-◌, ◌<◌, cond, List, [], ◌∷◌, length, take, drop, Some, None, Option, ◌==◌, slice_index_or}
+use Rattle.std.specs.Prelude.{◌≡◌, ℕ, suc, ◌+◌, ◌-◌, ◌<◌, cond, List, [], ◌∷◌, take, drop, Some, None, Option, ◌==◌, slice_index_or}
 use Rattle.monoid.specs.Clips.{still, after, from_tag}
 use Rattle.monoid.specs.Laws.{reduced}
 use Rattle.monoid.specs.declared.draw.DrawTag.{DrawTag}

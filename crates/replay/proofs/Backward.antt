@@ -1,7 +1,7 @@
 -- What is read from streams that show a log is the log. Assumes nothing.
-use Rattle.std.proofs.Common.{◌≡◌, ℕ, zero, suc, ◌+◌, ◌*◌, ◌/◌, ◌%◌, ◌<◌, ◌≤◌, true, List, [], ◌∷◌, ◌++◌, map, length, get_or, take, drop, Some, None, sym, refl, ap, ◌∙◌, subst, arith, length-drop, length-take}
+use Rattle.std.proofs.Common.{◌≡◌, ℕ, zero, suc, ◌+◌, ◌<◌, ◌≤◌, true, List, [], ◌∷◌, ◌++◌, map, length, get_or, take, drop, Some, sym, refl, ap, ◌∙◌, subst, arith, length-drop, length-take}
 use Rattle.std.specs.List.{slice_get}
-use Rattle.std.proofs.lemmas.List.{drop_more, take-append-drop, length-take-le, length-map}
+use Rattle.std.proofs.lemmas.List.{drop_more, take-append-drop}
 use Rattle.monoid.specs.declared.path.PathTag.{PathTag}
 use Rattle.monoid.specs.declared.draw.DrawTag.{DrawTag}
 use Rattle.monoid.specs.PathTags.{Counts, is_segment}
@@ -9,11 +9,10 @@ use Rattle.monoid.specs.Packing.{blank}
 use Rattle.path.specs.Turns.{reads}
 use Rattle.values.specs.declared.transform.Transform.{Transform}
 use Rattle.values.specs.declared.style.Style.{Style}
-use Rattle.encoding.specs.Sheet.{Sheet}
 use Rattle.replay.specs.declared.reader.ShownSegment.{ShownSegment}
 use Rattle.replay.specs.declared.reader.ShownCommand.{ShownCommand}
-use Rattle.replay.specs.Log.{Segment, Entry, Commands, Log}
-use Rattle.replay.specs.Wanted.{counted, drawn_total, words_in, Segments, Drawing, Shows}
+use Rattle.replay.specs.Log.{Segment, Entry}
+use Rattle.replay.specs.Wanted.{counted, drawn_total, words_in, Shows}
 use Rattle.replay.specs.Reading.{filled, eight_at, segment-at, command_at, RowShows, CommandShows, LogRead, CommandsLogged}
 
 -- a row of eight begins with the words that fill it

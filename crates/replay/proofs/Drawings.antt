@@ -1,14 +1,14 @@
 -- The draw commands of the log, one more at a time. Assumes nothing.
-use Rattle.std.proofs.Common.{◌≡◌, ℕ, zero, suc, ◌+◌, ◌-◌, ◌*◌, ◌%◌, ◌<◌, ◌≤◌, ◌⊎◌, List, [], ◌∷◌, ◌++◌, map, length, take, drop, Some, None, sym, refl, ap, ◌∙◌, subst, inl, inr, arith, length-append, length-drop}
+use Rattle.std.proofs.Common.{◌≡◌, ℕ, zero, suc, ◌+◌, ◌-◌, ◌%◌, ◌<◌, ◌≤◌, List, [], ◌∷◌, ◌++◌, map, length, take, drop, Some, None, sym, refl, ap, ◌∙◌, subst, inl, inr, arith, length-append, length-drop}
 use Rattle.std.specs.List.{slice_get, flat_map}
 use Rattle.std.proofs.lemmas.List.{map-append, length-map, append-nil, append_assoc}
 use Rattle.monoid.specs.declared.draw.DrawTag.{DrawTag}
-use Rattle.monoid.specs.Clips.{Bic, bic, still, from_tag}
+use Rattle.monoid.specs.Clips.{Bic, bic, from_tag}
 use Rattle.encoding.specs.Tags.{draw_tag}
 use Rattle.replay.specs.Log.{Entry, entry}
 use Rattle.replay.specs.Wanted.{clipped, begin_tag, end-tag, Meets, words_in, drawn_total}
 use Rattle.replay.proofs.Lists.{part_append, nth_append, nth_snoc, nth_last, drop-append, drop_past, take_front}
-use Rattle.replay.proofs.Clips.{Stack, Among, Depths, Begun, stack-none, stack_plain, stack-begin, stack-end, apart}
+use Rattle.replay.proofs.Clips.{Stack, Among, Depths, stack-none, stack_plain, stack-begin, stack-end, apart}
 
 abbrev pub tags_of : List Entry → List DrawTag
 tags_of xs = map (λ (x : Entry). x.tag) xs

@@ -1,6 +1,6 @@
 -- What every accepted call keeps between the sheet and the log. Assumes nothing.
-use Rattle.std.proofs.Common.{◌≡◌, ℕ, zero, suc, ◌+◌, ◌-◌, ◌*◌, ◌<◌, ◌≤◌, Bool, true, false, cond, not, ◌&&◌, T, eqb, List, [], ◌∷◌, ◌++◌, length, Some, None, Ok, Err, Option, Result, sym, refl, ap, ◌∙◌, subst, arith, length-append, rules}
-use lib.Ieee.{Float, binary32, to_bits}
+use Rattle.std.proofs.Common.{◌≡◌, ℕ, ◌+◌, ◌<◌, Bool, true, false, cond, ◌&&◌, T, eqb, List, [], ◌∷◌, ◌++◌, length, Some, None, Option, sym, refl, ap, ◌∙◌, subst, arith, length-append, rules}
+use lib.Ieee.{Float}
 use Rattle.std.specs.Float.{float_is_finite}
 use Rattle.std.proofs.lemmas.List.{append-nil, append_assoc}
 use Rattle.std.proofs.lemmas.Bool.{cond_both, and_parts, eqb-true, eqb-false}
@@ -12,31 +12,30 @@ use Rattle.monoid.specs.PathTags.{tag}
 use Rattle.path.specs.Rules.{Own, Path, fresh, leave, finish, step}
 use Rattle.path.specs.Subpaths.{Laid_out}
 use Rattle.path.specs.Turns.{pieces}
-use Rattle.path.specs.Theorems.{EndsWell, Amounts}
 use Rattle.path.proofs.Laying.{step-laid, laid_out}
 use Rattle.path.proofs.Amounting.{amounts}
 use Rattle.values.specs.declared.transform.Transform.{Transform}
 use Rattle.values.specs.declared.style.Stroke.{Stroke}
 use Rattle.values.specs.declared.style.Style.{Style}
 use Rattle.values.specs.declared.error.EncodeError.{EncodeError}
-use Rattle.values.specs.declared.error.EncodeError.TheVariants.{NotFinite, ZeroWidth, NoOpenClip}
+use Rattle.values.specs.declared.error.EncodeError.TheVariants.{NotFinite, ZeroWidth}
 use Rattle.values.specs.Errors.{when, unless, or_else, told}
-use Rattle.values.specs.Settings.{no_width, same_transform, finite_transform, same_style, fill_style, stroke_style, stroke_error, MiterHalf}
+use Rattle.values.specs.Settings.{no_width, same_transform, finite_transform, fill_style, stroke_style, stroke_error}
 use Rattle.values.specs.declared.element.PathEl.{PathEl}
 use Rattle.values.specs.declared.element.PathEl.TheVariants.{MoveTo, LineTo, QuadTo, CurveTo, ClosePath}
 use Rattle.encoding.specs.Sheet as Sheets
 use Rattle.encoding.specs.Sheet.{Used, Opened, Sheet, blank, with_open, with_drawn, with_outlines}
 use Rattle.encoding.specs.Rules.{added, new_transform, transformed, new_style, styled, set_style, error_in, counting, drawing, clip_ended}
 use Rattle.path.specs.Entries.{path_tag}
-use Rattle.encoding.specs.Paths.{counted, outlined, ended, path_opened, stepped, whole}
+use Rattle.encoding.specs.Paths.{counted, outlined, ended, stepped, whole}
 use Rattle.encoding.specs.Elements.{element_rule, after_elements, list_next, empty_shape_rule}
-use Rattle.replay.specs.Calls.{Chosen, Command, Call, Takes, Strokes, Draws, FromRest, FromPath, From, Leaves, Made, taken, Ruled, RuledBy}
+use Rattle.replay.specs.Calls.{Chosen, Command, Call, Strokes, Draws, FromRest, FromPath, From, Leaves, Made, taken, Ruled, RuledBy}
 use Rattle.replay.specs.Calls.Chosen.{Filled, Stroked}
 use Rattle.replay.specs.Calls.Command.{Color, Blurred, BeginClip, EndClip}
 use Rattle.replay.specs.Calls.Call.{Reset, ForceNext, SetTransform, SetStyle, Draw, EmptyShape, Elements, OpenPath, Take, Finish, Abandon}
 use Rattle.replay.specs.Log as Logs
 use Rattle.replay.specs.Log.{Log, Segment, Entry, Commands, empty, close_latest, drawn, with_segments, with_path, step_of, drawn_in, noted, noted_by, logged}
-use Rattle.replay.specs.Wanted.{StyleOf, begin_tag, end-tag}
+use Rattle.replay.specs.Wanted.{StyleOf}
 use Rattle.replay.proofs.Shown.{Store, total}
 use Rattle.replay.proofs.Pieces.{AllGood, good_all}
 use Rattle.replay.proofs.Outlined.{Wide, Proper, Outlined, outlined-none, outlined-mark, outlined-style, outlined-transform, outlined-same-style, outlined-same-transform, outlined-path, style_stays, transform_stays}

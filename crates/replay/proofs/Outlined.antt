@@ -1,5 +1,5 @@
 -- The path tags with what they count and show, one more call at a time. Assumes nothing.
-use Rattle.std.proofs.Common.{◌≡◌, ℕ, zero, suc, ◌+◌, ◌-◌, ◌*◌, ◌/◌, ◌<◌, ◌≤◌, Bool, true, false, cond, not, ◌&&◌, ◌||◌, T, eqb, List, [], ◌∷◌, ◌++◌, map, length, take, drop, Some, None, Option, sym, refl, ap, ◌∙◌, subst, arith, length-append}
+use Rattle.std.proofs.Common.{◌≡◌, ℕ, ◌+◌, ◌*◌, ◌/◌, ◌<◌, Bool, true, false, T, eqb, List, [], ◌∷◌, ◌++◌, length, drop, Some, None, Option, sym, refl, ap, ◌∙◌, subst, arith, length-append}
 use lib.Ieee.{Float, binary32, fits, of_bits, to_bits}
 use lib.Ieee.Bits.{of_bits-to_bits}
 use Rattle.std.specs.Float.{float_is_finite}
@@ -19,7 +19,7 @@ use Rattle.values.specs.declared.style.Fill.TheVariants.{NonZero, EvenOdd}
 use Rattle.values.specs.declared.style.Stroke.{Stroke}
 use Rattle.values.specs.declared.style.Style.{Style}
 use Rattle.values.specs.Streams.{last_of}
-use Rattle.values.specs.Settings.{no_width, same_transform, same_style, other, is_new, fill_bits, fill_style, stroke_style, join_bits, start_cap_bits, end_cap_bits, MiterHalf}
+use Rattle.values.specs.Settings.{no_width, same_transform, same_style, other, is_new, fill_bits, stroke_style}
 use Rattle.path.specs.Entries.{path_tag}
 use Rattle.encoding.specs.Tags.{style_tag, transform_tag}
 use Rattle.replay.specs.Calls.{Chosen}

@@ -1,17 +1,17 @@
 -- A path's segments find their points in its words, and its tags count them. Assumes nothing.
-use Rattle.std.proofs.Common.{◌≡◌, ℕ, zero, suc, ◌+◌, ◌-◌, ◌*◌, ◌<◌, ◌≤◌, Bool, true, false, List, [], ◌∷◌, ◌++◌, length, take, drop, Option, sym, refl, ap, ◌∙◌, subst, arith, length-append, length-drop, length-take}
+use Rattle.std.proofs.Common.{◌≡◌, ◌+◌, ◌≤◌, true, List, [], ◌∷◌, ◌++◌, length, drop, Option, sym, refl, ap, ◌∙◌, subst, arith, length-drop, length-take}
 use Rattle.geometry.specs.declared.points.Point.{Point}
 use Rattle.geometry.specs.declared.points.Segment as Geometric
 use Rattle.geometry.specs.declared.points.Segment.TheVariants.{Line, Quad, Cubic}
 use Rattle.geometry.specs.Segments.{end_point}
 use Rattle.monoid.specs.declared.path.PathTag.{PathTag}
-use Rattle.monoid.specs.PathTags.{Counts, none, plus, from_tag, is_segment, ended, tag}
+use Rattle.monoid.specs.PathTags.{Counts, plus, from_tag, is_segment, ended}
 use Rattle.path.specs.Subpaths.{Subpath}
-use Rattle.path.specs.Entries.{tag_of, point_words, segment_words}
+use Rattle.path.specs.Entries.{tag_of}
 use Rattle.path.specs.Turns.{Piece, reads, passes, pieces, piece, drawn, all_drawn}
 use Rattle.values.specs.declared.transform.Transform.{Transform}
 use Rattle.replay.specs.Calls.{Chosen}
-use Rattle.replay.specs.Log.{Segment, styled}
+use Rattle.replay.specs.Log.{styled}
 use Rattle.replay.proofs.Lists.{drop-drop}
 use Rattle.replay.proofs.Shown.{Store, At, Reads, Around, around-on, head-segment}
 

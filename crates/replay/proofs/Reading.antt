@@ -1,13 +1,13 @@
 -- Entries that are read by a count, and tables that are filled by counting. Assumes nothing.
-use Rattle.std.proofs.Common.{◌≡◌, ℕ, zero, suc, ◌+◌, ◌-◌, ◌*◌, ◌/◌, ◌%◌, ◌^◌, ◌<◌, ◌≤◌, Bool, true, false, cond, not, eqb, ◌⊎◌, List, [], ◌∷◌, ◌++◌, length, get_or, take, drop, set, Some, None, Option, sym, refl, ap, ◌∙◌, subst, inl, inr, arith, length-set, length-take, take_all, take-add, rules}
+use Rattle.std.proofs.Common.{◌≡◌, ℕ, zero, suc, ◌+◌, ◌-◌, ◌<◌, ◌≤◌, Bool, true, false, cond, not, eqb, ◌⊎◌, List, [], ◌∷◌, length, get_or, take, drop, set, Some, None, sym, refl, ap, ◌∙◌, subst, inl, inr, arith, length-set, length-take, take_all, take-add, rules}
 use Rattle.std.specs.List.{slice_get}
 use Rattle.std.proofs.lemmas.List.{get_or-take, get_or-drop, get_or_past, get_or_default, take_more, get_or-set_same, get_or-set_other}
 use Rattle.std.proofs.lemmas.Bool.{cases_eq}
 use Rattle.monoid.specs.declared.path.PathTag.{PathTag}
 use Rattle.monoid.specs.declared.draw.DrawTag.{DrawTag}
 use Rattle.monoid.specs.Answers.{most}
-use Rattle.monoid.specs.Laws.{Laws, reduced}
-use Rattle.monoid.specs.PathTags.{Counts, none, plus, from_tag, from_word, segment_type, is_segment, Small}
+use Rattle.monoid.specs.Laws.{Laws}
+use Rattle.monoid.specs.PathTags.{Counts, plus, from_tag, from_word, segment_type, is_segment, Small}
 use Rattle.monoid.specs.DrawTags as Draws
 use Rattle.monoid.specs.Packing.{blank, word}
 use Rattle.monoid.proofs.Reducing.{reduced-append, reduced-one}

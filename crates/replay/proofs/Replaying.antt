@@ -1,5 +1,5 @@
 -- One call more of a list that is replayed. Assumes nothing.
-use Rattle.std.proofs.Common.{◌≡◌, ℕ, ◌+◌, ◌<◌, ◌≤◌, Bool, true, false, List, [], ◌∷◌, ◌++◌, map, reverse, length, get_or, take, drop, set, sym, refl, ap, ◌∙◌, subst, arith}
+use Rattle.std.proofs.Common.{◌≡◌, ℕ, ◌+◌, ◌<◌, Bool, true, false, List, [], ◌∷◌, ◌++◌, map, reverse, length, get_or, take, drop, set, sym, refl, ap, ◌∙◌, subst, arith}
 use Rattle.std.proofs.lemmas.List.{map-append, reverse-append, take_more, take_more_set, drop-set-lt, drop_more}
 use Rattle.encoding.specs.declared.encoding.Encoding.{Encoding}
 use Rattle.encoding.specs.Sheet.{Streams, sheet, blank}

@@ -1,24 +1,23 @@
 -- A run leaves what the rules leave. Assumes nothing.
-use Rattle.std.proofs.Common.{◌≡◌, ℕ, Bool, true, false, List, [], ◌∷◌, take, drop, Some, None, Ok, Err, Option, Result, sym, refl, ap, ◌∙◌, subst, arith}
-use Rattle.encoding.specs.declared.encoding.Encoding.{Encoding}
+use Rattle.std.proofs.Common.{◌≡◌, ℕ, Bool, true, false, List, take, drop, Some, None, Ok, Err, Option, Result, sym, refl, ap, ◌∙◌, subst, arith}
 use Rattle.values.specs.declared.element.PathEl.{PathEl}
 use Rattle.values.specs.declared.element.ElementError.{ElementError}
 use Rattle.values.specs.declared.error.EncodeError.{EncodeError}
 use Rattle.values.specs.Errors.{short, full, or_else}
-use Rattle.encoding.specs.Sheet.{Streams, Opened, Sheet, first, sheet, blank}
-use Rattle.encoding.specs.Promises.{Rule, Answered, rooms, reason}
+use Rattle.encoding.specs.Sheet.{Streams, Opened, Sheet, first, sheet}
+use Rattle.encoding.specs.Promises.{Rule, Answered, rooms}
 use Rattle.encoding.specs.Paths.{path_opened}
 use Rattle.encoding.specs.Elements.{Listed, list_reason, list_told, list_leaves, list_next}
 use Rattle.encoding.proofs.Listing.{took, refused}
 use Rattle.replay.specs.declared.calls.Answer.{Answer}
-use Rattle.replay.specs.declared.calls.Answer.TheVariants.{Done, Said, Counted, Declined, DeclinedAt, NotNow}
+use Rattle.replay.specs.declared.calls.Answer.TheVariants.{Said, Counted}
 use Rattle.replay.specs.declared.calls.Plan.{Plan}
 use Rattle.replay.specs.declared.calls.Plan.TheVariants.{Closed, Open}
-use Rattle.replay.specs.Calls.{Chosen, Command, Call, Takes, Made, taken, FromRest, FromPath, Leaves, Ruled, RuledBy}
+use Rattle.replay.specs.Calls.{Call, Takes, Made, taken, FromRest, FromPath, Leaves, Ruled, RuledBy}
 use Rattle.replay.specs.Calls.Chosen.{Filled, Stroked}
 use Rattle.replay.specs.Calls.Command.{Color, Blurred, BeginClip, EndClip}
 use Rattle.replay.specs.Calls.Call.{Reset, ForceNext, SetTransform, SetStyle, Draw, EmptyShape, Elements, OpenPath, Take, Finish, Abandon}
-use Rattle.replay.specs.Runs.{shown, answer_of, list_answer, done, Told, Plainly, PassedOver, StepAtRest, StepInPath, StepBy, Step, Run, RunsShow}
+use Rattle.replay.specs.Runs.{shown, answer_of, list_answer, done, Told, Plainly, PassedOver, StepAtRest, StepInPath, StepBy, Run, RunsShow}
 use Rattle.replay.specs.Runs.Run.{begun, brought, accepted, declined}
 use Rattle.replay.proofs.Theorem.{rules_show}
 

@@ -1,14 +1,14 @@
 -- What the rules leave shows what was drawn. Assumes nothing.
-use Rattle.std.proofs.Common.{◌≡◌, ℕ, ◌*◌, List, [], ◌∷◌, ◌++◌, length, take, drop, replicate, Some, sym, refl, ap, ◌∙◌, subst}
+use Rattle.std.proofs.Common.{◌≡◌, ◌*◌, List, ◌++◌, length, take, drop, replicate, Some, sym, ap, ◌∙◌, subst}
 use Rattle.std.specs.List.{slice_get}
 use Rattle.monoid.specs.PathTags.{Counts, none}
-use Rattle.monoid.specs.Packing.{packed, blank}
+use Rattle.monoid.specs.Packing.{blank}
 use Rattle.monoid.specs.Clips.{bic}
 use Rattle.monoid.proofs.Packs.{plus_laws, packed-counts, blanks_after}
 use Rattle.encoding.specs.Sheet.{Sheet}
 use Rattle.replay.specs.Calls.{Made, Ruled}
 use Rattle.replay.specs.Log.{Log, logged}
-use Rattle.replay.specs.Wanted.{counted, clipped, drawn_total, Shown, Totals, Segments, Drawing, Whole, RulesShow}
+use Rattle.replay.specs.Wanted.{counted, clipped, drawn_total, Shown, Totals, Segments, Drawing, RulesShow}
 use Rattle.replay.proofs.Only.{one_ruled}
 use Rattle.replay.proofs.Clips.{stack-depth}
 use Rattle.replay.proofs.Drawings.{tags_of, words-total, words-at, EndsAt}

@@ -1,5 +1,5 @@
 -- The log: what was drawn, without streams. It is fed each call, and whether it was accepted. Assumes nothing.
-use Rattle.std.specs.Prelude.{ℕ, ◌+◌, ◌*◌, Bool, true, false, cond, List, [], ◌∷◌, ◌++◌, length, Some, None, Option, to_bits}
+use Rattle.std.specs.Prelude.{ℕ, ◌+◌, ◌*◌, cond, List, [], ◌∷◌, ◌++◌, length, Some, None, Option, to_bits}
 use Rattle.std.specs.Float.{binary32}
 use Rattle.monoid.specs.declared.path.PathTag.{PathTag}
 use Rattle.monoid.specs.declared.draw.DrawTag.{DrawTag}

@@ -1,5 +1,5 @@
 -- What the values of a list of calls stand for, and what is promised of replaying one. Assumes nothing.
-use Rattle.std.specs.Prelude.{◌≡◌, ℕ, min, Bool, List, [], ◌∷◌, map, reverse, length, take, drop}
+use Rattle.std.specs.Prelude.{◌≡◌, ℕ, min, List, map, reverse, length, take, drop}
 use Rattle.monoid.specs.declared.path.PathTag.{PathTag}
 use Rattle.monoid.specs.declared.draw.DrawTag.{DrawTag}
 use Rattle.values.specs.declared.transform.Transform.{Transform}

@@ -1,5 +1,5 @@
 -- What is read from the streams by counting. Assumes nothing.
-use Rattle.std.specs.Prelude.{◌≡◌, ℕ, zero, suc, ◌+◌, ◌/◌, ◌<◌, ◌≤◌, true, List, [], ◌∷◌, length, take, drop, Some, Ok, Err, Result, slice_index_or}
+use Rattle.std.specs.Prelude.{◌≡◌, ℕ, zero, suc, ◌/◌, ◌<◌, ◌≤◌, true, List, [], ◌∷◌, length, take, drop, Some, Ok, Err, Result, slice_index_or}
 use Rattle.std.specs.List.{slice_get}
 use Rattle.monoid.specs.declared.CountError.{CountError}
 use Rattle.monoid.specs.declared.path.PathTag.{PathTag}

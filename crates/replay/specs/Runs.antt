@@ -1,10 +1,9 @@
 -- One call, by what it promises, and runs of calls on one Encoding. Assumes nothing.
-use Rattle.std.specs.Prelude.{◌≡◌, ℕ, Bool, true, false, List, [], ◌∷◌, Some, None, Ok, Err, Option, Result}
+use Rattle.std.specs.Prelude.{◌≡◌, ℕ, Bool, true, false, List, [], ◌∷◌, Ok, Err, Result}
 use Rattle.encoding.specs.declared.encoding.Encoding.{Encoding}
-use Rattle.encoding.specs.declared.path_encoder.PathEncoder.{PathEncoder}
 use Rattle.values.specs.declared.element.ElementError.{ElementError}
 use Rattle.values.specs.declared.error.EncodeError.{EncodeError}
-use Rattle.encoding.specs.Sheet.{Streams, Opened, Sheet, sheet, blank}
+use Rattle.encoding.specs.Sheet.{Streams, Sheet, sheet, blank}
 use Rattle.encoding.specs.Promises.{Rule, Answered, path_sheet}
 use Rattle.encoding.specs.Rules.{Nothing, forced, transform_rule, fill_rule, stroke_rule, color_rule, blur_rule, begin_clip, end_clip}
 use Rattle.encoding.specs.Paths.{path_opened, path_abandoned, finish_rule}

@@ -1,7 +1,6 @@
 -- Sheets worked through, of the definitions. Assumes nothing.
-use Rattle.std.specs.Prelude.{◌≡◌, ℕ, List, [], ◌∷◌, map, Some, None, from_bits, Float}
+use Rattle.std.specs.Prelude.{◌≡◌, List, [], ◌∷◌, map, Some, None, from_bits, Float}
 use Rattle.std.specs.Float.{binary32}
-use Rattle.std.specs.Float.Ieee.{to_bits}
 use Rattle.math.specs.Worked as Halves
 use Rattle.monoid.specs.Worked as Counting
 use Rattle.monoid.specs.Clips.{still}
@@ -13,7 +12,7 @@ use Rattle.replay.specs.Calls.{Made, made}
 use Rattle.replay.specs.Calls.Chosen.{Filled}
 use Rattle.replay.specs.Calls.Command.{Color, BeginClip, EndClip}
 use Rattle.replay.specs.Calls.Call.{SetStyle, Draw, EmptyShape}
-use Rattle.replay.specs.Log.{Segment, Entry, entry, logged}
+use Rattle.replay.specs.Log.{Entry, entry, logged}
 use Rattle.replay.specs.Wanted.{drawn_total, clipped}
 
 abbrev pub one : Float

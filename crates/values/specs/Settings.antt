@@ -1,5 +1,5 @@
 -- Transforms and styles: when two are the same, when one is written, and the words of a style. Assumes nothing.
-use Rattle.std.specs.Prelude.{◌≡◌, ℕ, ◌+◌, Bool, true, false, cond, not, ◌&&◌, ◌||◌, List, [], ◌∷◌, Some, None, Option, ◌==◌, from_bits, to_bits, Float}
+use Rattle.std.specs.Prelude.{◌≡◌, ℕ, ◌+◌, Bool, true, not, ◌&&◌, ◌||◌, List, [], ◌∷◌, Some, None, Option, ◌==◌, from_bits, to_bits, Float}
 use Rattle.std.specs.Float.{binary32}
 use Rattle.math.specs.Halves.{RoundsTo}
 use Rattle.geometry.specs.Numbers.{all_finite, same_number, same_numbers}

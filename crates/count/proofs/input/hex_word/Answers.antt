@@ -1,4 +1,4 @@
-use Rattle.std.proofs.Common.{◌≡◌, get_or, sym, ap, ◌∙◌, subst}
+use Rattle.std.proofs.Common.{get_or, sym, ap, ◌∙◌}
 use Rattle.count.proofs.Signs.{plus-first}
 use Rattle.count.proofs.input.hex_word.Goals as goal
 

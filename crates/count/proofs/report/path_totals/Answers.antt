@@ -1,4 +1,4 @@
-use Rattle.std.proofs.Common.{◌≡◌, ap, ◌∙◌}
+use Rattle.std.proofs.Common.{ap, ◌∙◌}
 use Rattle.monoid.specs.Laws.{reduced}
 use Rattle.monoid.specs.PathTags.{none, plus, from_word}
 use Rattle.count.proofs.report.path_totals.Goals as goal

@@ -1,4 +1,4 @@
-use Rattle.std.proofs.Common.{◌≡◌, ℕ, get_or, None, sym, ap, ◌∙◌, arith}
+use Rattle.std.proofs.Common.{◌≡◌, ℕ, None, ap, arith}
 use Rattle.std.proofs.lemmas.List.{get_or_past}
 use Rattle.monoid.specs.Meeting.{met_by, MeetsByReduction}
 use Rattle.monoid.proofs.Meetings.{met, not_met}

@@ -1,4 +1,4 @@
-use Rattle.std.proofs.Common.{◌≡◌, ◌≤◌, length, sym, ap, ◌∙◌, subst, arith, take_all}
+use Rattle.std.proofs.Common.{◌≤◌, length, sym, ap, ◌∙◌, subst, arith, take_all}
 use Rattle.monoid.specs.Answers.{most}
 use Rattle.monoid.specs.Bracketings.{Means}
 use Rattle.monoid.specs.Laws.{reduced}

@@ -1,4 +1,4 @@
-use Rattle.std.proofs.Common.{◌≡◌, ◌+◌, ◌<◌, ◌≤◌, length, get_or, take, sym, ap, ◌∙◌, subst, arith, take_all, rules}
+use Rattle.std.proofs.Common.{◌≡◌, ◌<◌, ◌≤◌, length, get_or, take, sym, ap, ◌∙◌, subst, arith, take_all, rules}
 use mir.Facts.{Fits-below}
 use Rattle.monoid.specs.Answers.{most}
 use Rattle.monoid.specs.Packing.{blank}

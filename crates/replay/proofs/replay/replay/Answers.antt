@@ -1,5 +1,5 @@
-use Rattle.std.proofs.Common.{◌≡◌, ℕ, min, length, sym, refl, subst, arith}
-use Rattle.replay.specs.Meant.{six, Replayed}
+use Rattle.std.proofs.Common.{◌≡◌, ℕ, min, length, refl, subst, arith}
+use Rattle.replay.specs.Meant.{six}
 use Rattle.replay.proofs.Runs.{runs_show}
 use Rattle.replay.proofs.Replaying.{Going, ran-none, going_more, shown_by}
 use Rattle.replay.proofs.replay.replay.Goals as goal

@@ -1,6 +1,6 @@
-use Rattle.std.proofs.Common.{◌≡◌, ◌+◌, ◌*◌, [], ◌∷◌, Ok, Err, sym, ◌∙◌, subst, rules}
+use Rattle.std.proofs.Common.{◌≡◌, ◌+◌, ◌*◌, [], ◌∷◌, Err, sym, ◌∙◌, subst, rules}
 use Rattle.encoding.specs.Tags.{begin_clip_tag}
-use Rattle.encoding.specs.Sheet.{Streams, Sheet, sheet, with_draws, with_drawn}
+use Rattle.encoding.specs.Sheet.{Sheet, sheet, with_draws, with_drawn}
 use Rattle.encoding.specs.Promises.{Rule, Answered, reason}
 use Rattle.encoding.specs.Rules.{Nothing, draw_rule, begin_clip, counting}
 use Rattle.encoding.proofs.Reasons.{stops, goes_on}

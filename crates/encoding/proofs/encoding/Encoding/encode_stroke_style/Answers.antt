@@ -1,5 +1,5 @@
-use Rattle.std.proofs.Common.{◌≡◌, true, Ok, Err, sym, ◌∙◌, subst, rules}
-use Rattle.encoding.specs.Sheet.{Streams, Sheet, sheet, with_styles}
+use Rattle.std.proofs.Common.{◌≡◌, true, Err, sym, ◌∙◌, subst, rules}
+use Rattle.encoding.specs.Sheet.{Sheet, sheet, with_styles}
 use Rattle.encoding.specs.Promises.{Rule, Answered, reason}
 use Rattle.encoding.specs.Rules.{Nothing, style_rule, stroke_rule}
 use Rattle.encoding.proofs.Reasons.{stops, goes_on}

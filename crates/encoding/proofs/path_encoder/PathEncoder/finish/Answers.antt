@@ -1,4 +1,4 @@
-use Rattle.std.proofs.Common.{◌≡◌, ◌-◌, [], Err, sym, subst, arith}
+use Rattle.std.proofs.Common.{◌-◌, [], Err, sym, subst, arith}
 use borrow.Rule.Slice.PartMut.{put_mid}
 use Rattle.values.specs.declared.error.EncodeError.{EncodeError}
 use Rattle.encoding.specs.Sheet.{Streams, with_paths}

@@ -1,6 +1,5 @@
 use Rattle.std.proofs.Common.{subst}
-use Rattle.geometry.specs.declared.points.Segment.TheVariants.{Line, Quad, Cubic}
-use Rattle.path.specs.declared.state.Step.TheVariants.{Move, Draw}
+use Rattle.path.specs.declared.state.Step.TheVariants.{Move}
 use Rattle.encoding.specs.Promises.{Rule, OnPath}
 use Rattle.encoding.specs.Rules.{Nothing}
 use Rattle.encoding.specs.Paths.{step_rule}

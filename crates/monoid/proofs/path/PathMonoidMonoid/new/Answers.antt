@@ -1,7 +1,6 @@
 use Rattle.std.proofs.Common.{◌≡◌, ◌+◌, ◌*◌, ◌^◌, ◌<◌, arith}
 use lib.Bits.{bit_and}
-use lib.Count.{ones, ones-le}
-use lib.Bits.{and_le_l}
+use lib.Count.{ones}
 use Rattle.monoid.specs.PathTags.{bit, tag}
 use Rattle.monoid.proofs.Words.{bits_of, ones_16, ones_32, ones_64, words_of, segments_of, t0, t1, t2, t3}
 use Rattle.monoid.proofs.path.PathMonoidMonoid.new.Goals as goal

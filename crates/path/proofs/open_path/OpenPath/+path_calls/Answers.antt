@@ -2,7 +2,7 @@
 use Rattle.std.proofs.Common.{◌≡◌, Bool, true, false, sym, ap, ◌∙◌, arith, rules}
 use Rattle.geometry.specs.declared.points.Segment.TheVariants.{Line, Quad}
 use Rattle.path.specs.declared.state.PathState.TheVariants.{Start, MoveTo, NonemptySubpath}
-use Rattle.path.specs.Rules.{join, close, leave, move_to, segment_to, draw, mark_end, drop_move, put_marker}
+use Rattle.path.specs.Rules.{join, close, leave, move_to, segment_to, mark_end, drop_move, put_marker}
 use Rattle.path.specs.Opening.{opened}
 use Rattle.path.specs.View.{lent, view}
 use Rattle.path.proofs.Cases.{close_at, close-fill, close-stroke, leave-fill, leave-at, segment_open, join_open}
