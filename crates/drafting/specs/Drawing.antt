@@ -1,5 +1,5 @@
 -- A plan that was drawn from a list of calls. Assumes nothing.
-use Rattle.std.specs.Prelude.{◌≡◌, ℕ, List, ◌∷◌, vec_items}
+use Rattle.std.specs.Prelude.{◌≡◌, List, ◌∷◌, vec_items}
 use Rattle.encoding.specs.declared.encoding.Encoding.{Encoding}
 use Rattle.encoding.specs.Sheet.{Streams, sheet}
 use Rattle.encoding.specs.Promises.{path_sheet}

@@ -78,3 +78,38 @@ fn close(plan: Plan) -> Encoding
         Plan::Open(path) => path.abandon(),
     }
 }
+
+#[cfg(test)]
+mod tests {
+    use super::*;
+    use std::test::Fail;
+
+    const ROOM: Room = Room {
+        path_tags: 4,
+        path_data: 8,
+        draw_tags: 1,
+        draw_data: 1,
+        transforms: 0,
+        styles: 0,
+    };
+
+    // A colour is drawn, a second one finds no room, and a path that is left open is abandoned.
+    #[test]
+    fn a_colour(rt: HostRuntime) -> Result<(), Fail> {
+        let calls = [
+            Call::Color(0xff00_00ff),
+            Call::Color(0xffff_ffff),
+            Call::Path(true),
+        ];
+        let drawn = draw(rt.alloc(), &calls, ROOM)?;
+        assert_eq!(rt; drawn.answers.len(), 3);
+        assert!(rt; matches!(drawn.answers[0], Answer::Done));
+        assert!(rt; matches!(drawn.answers[1], Answer::Declined(_)));
+        assert!(rt; matches!(drawn.answers[2], Answer::Done));
+        assert_eq!(rt; drawn.draw_tags.len(), 1);
+        assert_eq!(rt; drawn.draw_tags[0].0, DrawTag::COLOR.0);
+        assert_eq!(rt; drawn.draw_data.as_slice(), [0xff00_00ff].as_slice());
+        assert_eq!(rt; drawn.encoding.stream_offsets().draw_tags, 1);
+        Ok(())
+    }
+}
