@@ -8,3 +8,4 @@ pub mod Clips
 pub mod Meeting
 pub mod Worked
 pub mod Bounds
+pub mod Kinds

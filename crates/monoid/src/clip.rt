@@ -2,8 +2,7 @@
 ghost use Rattle.std.specs.Prelude.{◌≡◌, ℕ, ◌+◌, ◌^◌, ◌<◌, ◌≤◌, [], length, take};
 ghost use Rattle.monoid.specs.Clips.{Bic, bic_of, still, after, from_tag, Small};
 ghost use Rattle.monoid.specs.Meeting.{latest, open_after, met_by, MeetsByReduction};
-ghost use Rattle.std.proofs.Common.{arith, rules};
-ghost use Rattle.monoid.specs.Bounds.{clips_few};
+ghost use Rattle.monoid.specs.Kinds.{clip_laws, clip_fits};
 
 use crate::draw::DrawTag;
 use crate::{CountError, Monoid, sum};
@@ -31,9 +30,9 @@ impl Monoid for ClipBic {
 
     ghost Fits = { Small };
 
-    ghost monoid = { Prim.search rules };
+    ghost monoid = { clip_laws };
 
-    ghost few = { λ ss few. let h = clips_few ss in omega arith };
+    ghost few = { clip_fits };
 
     fn identity() -> ClipBic {
         ClipBic { a: 0, b: 0 }

@@ -1,8 +1,7 @@
 // Draw tags and the records that count them.
 ghost use Rattle.std.specs.Prelude.{◌≡◌, ◌+◌, ◌^◌, ◌<◌, ◌≤◌};
 ghost use Rattle.monoid.specs.DrawTags.{Draws, draws_of, none, plus, info_size, from_tag, Small};
-ghost use Rattle.std.proofs.Common.{arith, rules};
-ghost use Rattle.monoid.specs.Bounds.{draws_few};
+ghost use Rattle.monoid.specs.Kinds.{draw_laws, draw_fits};
 
 use crate::{CountError, Monoid, sum};
 
@@ -60,9 +59,9 @@ impl Monoid for DrawMonoid {
 
     ghost Fits = { Small };
 
-    ghost monoid = { Prim.search rules };
+    ghost monoid = { draw_laws };
 
-    ghost few = { λ ss few. let h = draws_few ss in omega arith };
+    ghost few = { draw_fits };
 
     fn identity() -> DrawMonoid {
         DrawMonoid {

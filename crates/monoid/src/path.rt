@@ -3,8 +3,7 @@ ghost use Rattle.std.specs.Prelude.{◌≡◌, ◌+◌, ◌<◌, ◌≤◌, leng
 ghost use Rattle.std.specs.Option.{option_to_list};
 ghost use Rattle.monoid.specs.Packing.{word, packed, Packs};
 ghost use Rattle.monoid.specs.PathTags.{Counts, counts_of, none, plus, from_word, Small, segment_type, is_segment, is_f32, ends_subpath, ended};
-ghost use Rattle.std.proofs.Common.{arith, rules};
-ghost use Rattle.monoid.specs.Bounds.{words_few};
+ghost use Rattle.monoid.specs.Kinds.{path_laws, path_fits};
 
 use crate::{CountError, Monoid, sum};
 use std::alloc::{AllocError, Global};
@@ -107,9 +106,9 @@ impl Monoid for PathMonoid {
 
     ghost Fits = { Small };
 
-    ghost monoid = { Prim.search rules };
+    ghost monoid = { path_laws };
 
-    ghost few = { λ ss few. let h = words_few ss in omega arith };
+    ghost few = { path_fits };
 
     fn identity() -> PathMonoid {
         PathMonoid {

@@ -55,6 +55,6 @@ drawing s l h =
     }
 
 pub rules_show : RulesShow
-rules_show xs s r none =
+rules_show xs s r closed =
     let h = (kept xs s r).here in
     record { totals = totals xs s (logged xs) r h; segments = segments s (logged xs) h; drawing = drawing s (logged xs) h }
