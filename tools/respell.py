@@ -80,7 +80,7 @@ def declared(texts):
 
 
 def camel(name):
-    parts = name.split("-")
+    parts = re.split("[-_]", name)
     return parts[0] + "".join(p[:1].upper() + p[1:] for p in parts[1:])
 
 
@@ -103,11 +103,12 @@ def renames(texts):
     facts = {n for n, k in kinds.items() if k == "fact"} | {camel(n) for n, k in kinds.items() if k == "fact"}
     new = {}
     for name, kind in kinds.items():
-        if "-" not in name.strip("-") or name in skip:
+        dashed = "-" in name.strip("-") or kind == "fact" and "_" in name
+        if not dashed or name in skip:
             continue
         if name in CHOSEN:
             new[name] = CHOSEN[name]
-        elif kind == "fact" or (kind == "word" and name[0].isupper()):
+        elif name[0].isupper() and kind in ("fact", "word"):
             new[name] = camel(name)
         elif kind == "word":
             new[name] = name.replace("-", "_")

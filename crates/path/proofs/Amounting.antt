@@ -7,8 +7,8 @@ use Rattle.monoid.specs.PathTags.{ended}
 use Rattle.path.specs.States.{by_state}
 use Rattle.path.specs.Entries.{point_words, tag_of, end_last, path_tag}
 use Rattle.path.specs.Rules.{Path, fresh, leave, steps}
-use Rattle.path.specs.Subpaths.{Subpath, tags_of, words_of, subpath_tags, all_tags, all_words, Whole, Each, Holds, Laid_out}
-use Rattle.path.specs.Subpaths.Laid_out.{at_rest, after_move, in_subpath}
+use Rattle.path.specs.Subpaths.{Subpath, tags_of, words_of, subpath_tags, all_tags, all_words, Whole, Each, Holds, LaidOut}
+use Rattle.path.specs.Subpaths.LaidOut.{at_rest, after_move, in_subpath}
 use Rattle.path.specs.Turns.{pieces, left_over}
 use Rattle.path.specs.Theorems.{ends_in, points_in, ReadsBack, Counted, EndsWell, Amounts, AfterAnySteps}
 use Rattle.path.proofs.Lists.{end_last-append, length-end_last}
@@ -28,7 +28,7 @@ counted_by m ds ts ws w k h t e f =
       segments = a.segments ∙ omega (arith, ap length h.tags, length-append (all_tags ds) ts);
     }
 
-counted : (m : Path) → Laid_out m → Counted m
+counted : (m : Path) → LaidOut m → Counted m
 counted m (at_rest ds e h) = counted_by m ds [] [] 0 0 h (tally_open []) refl (ap (by_state 0 2 2) e)
 counted m (after_move ds e h) = counted_by m ds [] (point_words m.first) 0 2 h (tally_open []) refl (ap (by_state 0 2 2) e)
 counted m (in_subpath ds ss n e h) = counted_by m ds (tags_of ss) _ (length (words_of ss)) 2 h (tally_open ss) (omega arith) (ap (by_state 0 2 2) e)
@@ -94,7 +94,7 @@ path-tag-after : (mark : Bool) (ts : List PathTag) → end_last ts ≡ ts → co
 path-tag-after true ts e = ap (λ (z : List PathTag). z ++ path_tag ∷ []) e
 path-tag-after false ts e = e ∙ sym (append-nil ts)
 
-ends_well : (m : Path) → Laid_out m → EndsWell m
+ends_well : (m : Path) → LaidOut m → EndsWell m
 ends_well m l =
     let r = leave-rests m l in
     let c = counted (leave m) (rest-laid (leave m) r) in
@@ -111,7 +111,7 @@ ends_well m l =
       something = λ mark h. finished-some mark (leave m).own.tags h ∙ path-tag-after mark (leave m).own.tags (rest_again (leave m) r h);
     }
 
-pub amounts : (m : Path) → Laid_out m → Amounts m
+pub amounts : (m : Path) → LaidOut m → Amounts m
 amounts m l = record { laid = l; counted = counted m l; finishes = ends_well m l }
 
 pub after_any_steps : (fill : Bool) → AfterAnySteps fill

@@ -11,8 +11,8 @@ use Rattle.path.specs.declared.state.Step.{Step}
 use Rattle.path.specs.declared.state.Step.TheVariants.{Move, Draw, Close}
 use Rattle.path.specs.Entries.{point_words, segment_words, tag_of, end_last, last_point, drop_point}
 use Rattle.path.specs.Rules.{Path, fresh, write, mark_end, drop_move, begin, with_tangent, put, join, marker, put_marker, close, leave, leave_in, move_to, put_first, draw, segment_to, segment_in, step, steps}
-use Rattle.path.specs.Subpaths.{Subpath, end_of, tags_of, words_of, subpath_tags, subpath_words, all_tags, all_words, Whole, Each, Holds, Laid_out}
-use Rattle.path.specs.Subpaths.Laid_out.{at_rest, after_move, in_subpath}
+use Rattle.path.specs.Subpaths.{Subpath, end_of, tags_of, words_of, subpath_tags, subpath_words, all_tags, all_words, Whole, Each, Holds, LaidOut}
+use Rattle.path.specs.Subpaths.LaidOut.{at_rest, after_move, in_subpath}
 use Rattle.path.proofs.Lists.{last_point-append, drop-point-append, end_last-append, drop-point-one, last_point-segment, two-words}
 use Rattle.path.proofs.Cases.{close_at, leave-fill, leave-stroke, draw-at}
 
@@ -173,68 +173,68 @@ close_nonempty : (b : Bool) (m : Path) (ds : List Subpath) → m.fill ≡ b → 
 close_nonempty true m ds f j = record { subpaths = _; state = refl; holds = marked (join m) ds j.draws.since j.draws.some (λ t. j.back) j.draws.holds }
 close_nonempty false m ds f j = stroke_ends m (put_marker true (join m)) ds f (puts (marker true (join m)) m (join m) ds j.draws)
 
-pub close-rests : (m : Path) → Laid_out m → Rests (close m)
+pub close-rests : (m : Path) → LaidOut m → Rests (close m)
 close-rests m (at_rest ds e h) = subst Rests (sym (close_at Start m e)) (record { subpaths = ds; state = e; holds = h })
 close-rests m (after_move ds e h) = subst Rests (sym (close_at MoveTo m e)) (record { subpaths = ds; state = refl; holds = dropped m ds h })
 close-rests m (in_subpath ds ss n e h) = subst Rests (sym (close_at NonemptySubpath m e)) (close_nonempty m.fill m ds refl (joins m ds ss n e h))
 
-leave-stroke-rests : (m : Path) → m.fill ≡ false → Laid_out m → Rests (leave_in m.state m)
+leave-stroke-rests : (m : Path) → m.fill ≡ false → LaidOut m → Rests (leave_in m.state m)
 leave-stroke-rests m f (at_rest ds e h) = subst Rests (ap (λ z. leave_in z m) (sym e)) (record { subpaths = ds; state = e; holds = h })
 leave-stroke-rests m f (after_move ds e h) = subst Rests (ap (λ z. leave_in z m) (sym e)) (record { subpaths = ds; state = refl; holds = dropped m ds h })
 leave-stroke-rests m f (in_subpath ds ss n e h) =
     subst Rests (ap (λ z. leave_in z m) (sym e))
     (stroke_ends m (put_marker false m) ds f (puts (marker false m) m m ds (record { since = ss; some = n; state = e; fill = refl; holds = h })))
 
-pub leave-rests : (m : Path) → Laid_out m → Rests (leave m)
+pub leave-rests : (m : Path) → LaidOut m → Rests (leave m)
 leave-rests m l = go m.fill refl
   where
     go : (b : Bool) → m.fill ≡ b → Rests (leave m)
     go true f = subst Rests (sym (leave-fill m f)) (close-rests m l)
     go false f = subst Rests (sym (leave-stroke m f)) (leave-stroke-rests m f l)
 
-pub rest-laid : (m : Path) → Rests m → Laid_out m
+pub rest-laid : (m : Path) → Rests m → LaidOut m
 rest-laid m r = at_rest r.subpaths r.state r.holds
 
 -- each step
-move-laid : (p : Point) (m : Path) → Laid_out m → Laid_out (move_to p m)
+move-laid : (p : Point) (m : Path) → LaidOut m → LaidOut (move_to p m)
 move-laid p m l = let r = leave-rests m l in after_move r.subpaths refl (begun p (leave m) r.subpaths r.holds)
 
-first_either : (b : Bool) (s : Segment) (m : Path) (ds : List Subpath) → m.state ≡ MoveTo → Holds m ds [] (point_words m.first) → Laid_out (cond b m (write s m))
+first_either : (b : Bool) (s : Segment) (m : Path) (ds : List Subpath) → m.state ≡ MoveTo → Holds m ds [] (point_words m.first) → LaidOut (cond b m (write s m))
 first_either true s m ds e h = after_move ds e h
 first_either false s m ds e h = in_subpath ds (s ∷ []) (omega arith) refl (first-written s m ds h)
 
-first-laid : (o : Option Point) (s : Segment) (m : Path) (ds : List Subpath) → m.state ≡ MoveTo → Holds m ds [] (point_words m.first) → Laid_out (put_first o s m)
+first-laid : (o : Option Point) (s : Segment) (m : Path) (ds : List Subpath) → m.state ≡ MoveTo → Holds m ds [] (point_words m.first) → LaidOut (put_first o s m)
 unfolding put
 first-laid None s m ds e h = after_move ds e h
 first-laid (Some t) s m ds e h =
     first_either (too_short (last_point m.own.words) s) s (with_tangent t m) ds e (record { whole = h.whole; tags = h.tags; words = h.words })
 
-draw-laid : (s : Segment) (m : Path) → Laid_out m → Laid_out (draw s m)
-draw-laid s m (at_rest ds e h) = subst Laid_out (sym (draw-at Start s m e)) (at_rest ds e h)
-draw-laid s m (after_move ds e h) = subst Laid_out (sym (draw-at MoveTo s m e)) (first-laid (tangent_end m.first s) s m ds e h)
+draw-laid : (s : Segment) (m : Path) → LaidOut m → LaidOut (draw s m)
+draw-laid s m (at_rest ds e h) = subst LaidOut (sym (draw-at Start s m e)) (at_rest ds e h)
+draw-laid s m (after_move ds e h) = subst LaidOut (sym (draw-at MoveTo s m e)) (first-laid (tangent_end m.first s) s m ds e h)
 draw-laid s m (in_subpath ds ss n e h) =
     let d = puts s m m ds (record { since = ss; some = n; state = e; fill = refl; holds = h }) in
-    subst Laid_out (sym (draw-at NonemptySubpath s m e)) (in_subpath ds d.since d.some d.state d.holds)
+    subst LaidOut (sym (draw-at NonemptySubpath s m e)) (in_subpath ds d.since d.some d.state d.holds)
 
-either_laid : (b : Bool) (m n : Path) → Laid_out m → Laid_out n → Laid_out (cond b m n)
+either_laid : (b : Bool) (m n : Path) → LaidOut m → LaidOut n → LaidOut (cond b m n)
 either_laid true m n k l = k
 either_laid false m n k l = l
 
-segment-laid : (s : Segment) (z : PathState) (m : Path) → Laid_out m → Laid_out (segment_in z s m)
+segment-laid : (s : Segment) (z : PathState) (m : Path) → LaidOut m → LaidOut (segment_in z s m)
 segment-laid s Start m l =
     either_laid m.moved (draw s (move_to m.first m)) (move_to (end_point s) m) (draw-laid s (move_to m.first m) (move-laid m.first m l)) (move-laid (end_point s) m l)
 segment-laid s MoveTo m l = draw-laid s m l
 segment-laid s NonemptySubpath m l = draw-laid s m l
 
-pub step-laid : (s : Step) (m : Path) → Laid_out m → Laid_out (step s m)
+pub step-laid : (s : Step) (m : Path) → LaidOut m → LaidOut (step s m)
 unfolding segment_to
 step-laid (Move p) m l = move-laid p m l
 step-laid (Draw s) m l = segment-laid s m.state m l
 step-laid Close m l = rest-laid (close m) (close-rests m l)
 
-steps-laid : (ss : List Step) (m : Path) → Laid_out m → Laid_out (steps ss m)
+steps-laid : (ss : List Step) (m : Path) → LaidOut m → LaidOut (steps ss m)
 steps-laid [] m l = l
 steps-laid (s ∷ ss) m l = steps-laid ss (step s m) (step-laid s m l)
 
-pub laid_out : (fill : Bool) (ss : List Step) → Laid_out (steps ss (fresh fill))
+pub laid_out : (fill : Bool) (ss : List Step) → LaidOut (steps ss (fresh fill))
 laid_out fill ss = steps-laid ss (fresh fill) (at_rest [] refl (record { whole = tt; tags = refl; words = refl }))

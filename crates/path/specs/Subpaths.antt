@@ -56,7 +56,7 @@ pub record Holds (m : Path) (ds : List Subpath) (ts : List PathTag) (ws : List �
   pub words : m.own.words ≡ all_words ds ++ ws
 
 -- by its state, nothing more, a lone first point, or an open subpath with its first point and segments
-pub data Laid_out (m : Path) : Type 0 where
-  at_rest : (ds : List Subpath) → m.state ≡ Start → Holds m ds [] [] → Laid_out m
-  after_move : (ds : List Subpath) → m.state ≡ MoveTo → Holds m ds [] (point_words m.first) → Laid_out m
-  in_subpath : (ds : List Subpath) (ss : List Segment) → 0 < length ss → m.state ≡ NonemptySubpath → Holds m ds (tags_of ss) (point_words m.first ++ words_of ss) → Laid_out m
+pub data LaidOut (m : Path) : Type 0 where
+  at_rest : (ds : List Subpath) → m.state ≡ Start → Holds m ds [] [] → LaidOut m
+  after_move : (ds : List Subpath) → m.state ≡ MoveTo → Holds m ds [] (point_words m.first) → LaidOut m
+  in_subpath : (ds : List Subpath) (ss : List Segment) → 0 < length ss → m.state ≡ NonemptySubpath → Holds m ds (tags_of ss) (point_words m.first ++ words_of ss) → LaidOut m

@@ -8,7 +8,7 @@ use Rattle.path.specs.declared.state.Step.{Step}
 use Rattle.path.specs.States.{by_state}
 use Rattle.path.specs.Entries.{path_tag}
 use Rattle.path.specs.Rules.{Path, fresh, leave, finish, steps}
-use Rattle.path.specs.Subpaths.{Subpath, Laid_out, Whole, Holds, subpath_tags}
+use Rattle.path.specs.Subpaths.{Subpath, LaidOut, Whole, Holds, subpath_tags}
 use Rattle.path.specs.Turns.{pieces, left_over, all_drawn}
 
 abbrev pub sum_of : (PathTag → ℕ) → List PathTag → ℕ
@@ -47,7 +47,7 @@ pub record EndsWell (m : Path) : Type 0 where
   pub something : (mark : Bool) → 0 < length (leave m).own.tags → (finish mark m).own.tags ≡ (leave m).own.tags ++ cond mark (path_tag ∷ []) []
 
 pub record Amounts (m : Path) : Type 0 where
-  pub laid : Laid_out m
+  pub laid : LaidOut m
   pub counted : Counted m
   pub finishes : EndsWell m
 

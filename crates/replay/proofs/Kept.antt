@@ -10,7 +10,7 @@ use Rattle.monoid.specs.declared.path.PathTag.{PathTag}
 use Rattle.monoid.specs.declared.draw.DrawTag.{DrawTag}
 use Rattle.monoid.specs.PathTags.{tag}
 use Rattle.path.specs.Rules.{Own, Path, fresh, leave, finish, step}
-use Rattle.path.specs.Subpaths.{Laid_out}
+use Rattle.path.specs.Subpaths.{LaidOut}
 use Rattle.path.specs.Turns.{pieces}
 use Rattle.path.proofs.Laying.{step-laid, laid_out}
 use Rattle.path.proofs.Amounting.{amounts}
@@ -43,7 +43,7 @@ use Rattle.replay.proofs.Drawings.{Drawings, drawings-none, drawings-color, draw
 
 abbrev pub Laid : Option Path → Type 0
 Laid None = Unit {0}
-Laid (Some m) = Laid_out m
+Laid (Some m) = LaidOut m
 
 abbrev pub store : Sheet → Store
 store s = record { words = s.outlines.words.entries; transforms = s.transforms.written.entries; styles = s.styles.written.entries }
@@ -281,7 +281,7 @@ no_segments o s l none h = by o.tags refl
         }
     by (t ∷ ts) e = absurd (omega (arith, none, ap length e))
 
-kept_finish : (mark : Bool) (o : Opened) (s : Sheet) (l : Log) → Laid_out o.path → KeptAt s l → Kept (ended mark (Some o) s) (with_segments (leave o.path).own l)
+kept_finish : (mark : Bool) (o : Opened) (s : Sheet) (l : Log) → LaidOut o.path → KeptAt s l → Kept (ended mark (Some o) s) (with_segments (leave o.path).own l)
 kept_finish mark o s l laid h =
     let m = o.path in
     let e = (amounts m laid).finishes in
@@ -301,7 +301,7 @@ element_next (QuadTo a b c d) s = refl
 element_next (CurveTo a b c d e f) s = refl
 element_next ClosePath s = refl
 
-kept_step : (x : PathEl) (o : Opened) (s : Sheet) (l : Log) → Laid_out o.path → KeptAt s l → Kept (with_open (stepped (step_of x) (Some o)) s) (with_path (Some (step (step_of x) o.path)) l)
+kept_step : (x : PathEl) (o : Opened) (s : Sheet) (l : Log) → LaidOut o.path → KeptAt s l → Kept (with_open (stepped (step_of x) (Some o)) s) (with_path (Some (step (step_of x) o.path)) l)
 kept_step x o s l laid h = re_opened (stepped (step_of x) (Some o)) (Some (step (step_of x) o.path)) s l refl (step-laid (step_of x) o.path laid) h
 
 -- elements in turn
@@ -312,7 +312,7 @@ after-so (x ∷ xs) o s =
     let r = after-so xs next s in
     (r.0, ap (after_elements xs) (element_next x (with_open (Some o) s)) ∙ r.1, r.2)
 
-drawn-laid : (xs : List PathEl) (m : Path) → Laid_out m → Laid_out (drawn_in xs m)
+drawn-laid : (xs : List PathEl) (m : Path) → LaidOut m → LaidOut (drawn_in xs m)
 drawn-laid [] m h = h
 drawn-laid (x ∷ xs) m h = drawn-laid xs (step (step_of x) m) (step-laid (step_of x) m h)
 
@@ -320,7 +320,7 @@ kept_list : (xs : List PathEl) (fill : Bool) (s : Sheet) (l : Log) → KeptAt s 
 kept_list xs fill s l h =
     let r = after-so xs (whole (fresh fill)) s in
     let p = r.0 in
-    let laid : Laid_out p.path = subst Laid_out (sym r.2) (drawn-laid xs (fresh fill) (laid_out fill [])) in
+    let laid : LaidOut p.path = subst LaidOut (sym r.2) (drawn-laid xs (fresh fill) (laid_out fill [])) in
     let opened : KeptAt (with_open (Some p) s) l = record { counted = record { words = h.counted.words; transforms = h.counted.transforms; styles = h.counted.styles }; outlined = h.outlined; drew = h.drew } in
     subst (λ m. Kept (list_next xs fill s) (with_segments (leave m).own l)) r.2
     (subst (λ z. Kept (ended true z.open_path z) (with_segments (leave p.path).own l)) (sym r.1) (kept_finish true p (with_open (Some p) s) l laid opened))
@@ -350,7 +350,7 @@ kept_at-rest (Take x) s q l none k h = absurd k
 kept_at-rest (Finish mark) s q l none k h = absurd k
 kept_at-rest Abandon s q l none k h = absurd k
 
-kept_in_path : (c : Call) (o : Opened) (s q : Sheet) (l : Log) → s.open_path ≡ Some o → Laid_out o.path → FromPath c s q → KeptAt s l → Kept q (Logs.noted_in_path c o.path l)
+kept_in_path : (c : Call) (o : Opened) (s q : Sheet) (l : Log) → s.open_path ≡ Some o → LaidOut o.path → FromPath c s q → KeptAt s l → Kept q (Logs.noted_in_path c o.path l)
 kept_in_path (Take x) o s q l e laid k h =
     let is : q ≡ with_open (stepped (step_of x) (Some o)) s = k.1 ∙ element_next x s ∙ ap (λ p. with_open (stepped (step_of x) p) s) e in
     subst (λ z. Kept z (Logs.noted_in_path (Take x) o.path l)) (sym is) (kept_step x o s l laid h)
