@@ -1,4 +1,4 @@
-// A plan drawn from its text.
+// A plan drawn from a list of calls.
 #![tactic(auto)]
 
 pub mod drawing;

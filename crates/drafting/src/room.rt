@@ -1,7 +1,5 @@
 // The space that a plan's streams are lent with.
 
-use values::error::Stream;
-
 /// How many entries each stream is lent with.
 #[derive(Clone, Copy)]
 pub struct Room {
