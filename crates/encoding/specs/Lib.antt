@@ -7,3 +7,6 @@ pub mod Rules
 pub mod Paths
 pub mod Elements
 pub mod Inner
+pub use Rattle.values.specs.Streams
+pub use Rattle.values.specs.Errors
+pub use Rattle.values.specs.Settings
