@@ -1,5 +1,5 @@
 -- A plan that was drawn from a list of calls. Assumes nothing.
-use Rattle.std.specs.Prelude.{◌≡◌, List, ◌∷◌, vec_items}
+use Rattle.std.specs.Prelude.{◌≡◌, List, ◌∷◌, length, vec_items}
 use Rattle.encoding.specs.declared.encoding.Encoding.{Encoding}
 use Rattle.encoding.specs.Sheet.{Streams, sheet}
 use Rattle.encoding.specs.Promises.{path_sheet}
@@ -13,6 +13,7 @@ use Rattle.replay.specs.Calls.Call.{Abandon}
 use Rattle.replay.specs.Wanted.{Whole}
 use Rattle.replay.specs.Meant.{six, Ran}
 use Rattle.drafting.specs.declared.drawing.Drawn.{Drawn}
+use Rattle.drafting.specs.declared.room.Room.{Room}
 
 abbrev pub streams_of : Drawn → Streams
 streams_of d = six (vec_items d.path_tags) (vec_items d.path_data) (vec_items d.draw_tags) (vec_items d.draw_data) (vec_items d.transforms) (vec_items d.styles)
@@ -34,3 +35,12 @@ pub record DrawnAs (cs : List Call) (d : Drawn) : Type 0 where
   pub ran : Ran cs (vec_items d.answers) plan (streams_of d)
   pub left : Left plan d.encoding
   pub shows : Whole (all_made plan ran.made) (sheet d.encoding (streams_of d))
+
+-- each stream has as many entries, used ones and free ones, as there was room asked for
+pub record HasRoom (r : Room) (d : Drawn) : Type 0 where
+  pub path_tags : length (vec_items d.path_tags) ≡ r.path_tags
+  pub path_data : length (vec_items d.path_data) ≡ r.path_data
+  pub draw_tags : length (vec_items d.draw_tags) ≡ r.draw_tags
+  pub draw_data : length (vec_items d.draw_data) ≡ r.draw_data
+  pub transforms : length (vec_items d.transforms) ≡ r.transforms
+  pub styles : length (vec_items d.styles) ≡ r.styles

@@ -1,6 +1,6 @@
 // The calls of a plan, made over streams of its own.
 ghost use Rattle.std.specs.Prelude.{IfOk};
-ghost use Rattle.drafting.specs.Drawing.{DrawnAs, Left};
+ghost use Rattle.drafting.specs.Drawing.{DrawnAs, HasRoom, Left};
 
 use crate::room::Room;
 use encoding::encoding::Encoding;
@@ -37,7 +37,8 @@ const NO_STYLE: Style = Style {
 
 /// Makes the calls one after the other, over streams with so much room. A path that is open in the end is abandoned.
 pub fn draw(heap: Global, calls: &[Call], room: Room) -> Result<Drawn, AllocError>
-    ensures { IfOk result (λ d. DrawnAs calls.now d) }
+    ensures drawn { IfOk result (λ d. DrawnAs calls.now d) }
+    ensures space { IfOk result (λ d. HasRoom room d) }
 {
     let mut answers = vec![in heap; Answer::NotNow; calls.len()]?;
     let mut path_tags = vec![in heap; PathTag(0); room.path_tags]?;
