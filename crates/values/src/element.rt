@@ -2,7 +2,7 @@
 use crate::error::EncodeError;
 
 /// One element of a path, with the coordinates of its points.
-#[derive(Clone, Copy)]
+#[derive(Clone, Copy, Debug, PartialEq)]
 pub enum PathEl {
     /// Another subpath begins at a point.
     MoveTo(f32, f32),
@@ -17,7 +17,7 @@ pub enum PathEl {
 }
 
 /// Why a list of elements was declined.
-#[derive(Clone, Copy)]
+#[derive(Clone, Copy, Debug, PartialEq, Eq)]
 pub struct ElementError {
     /// The refusal of the first step that was declined.
     pub error: EncodeError,

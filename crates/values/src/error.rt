@@ -4,14 +4,14 @@ ghost use Rattle.values.specs.Streams.{stream_number, max_entries};
 ghost use Rattle.values.specs.Errors.{number};
 
 /// A stream of a plan.
-#[derive(Clone, Copy)]
+#[derive(Clone, Copy, Debug, PartialEq, Eq)]
 pub enum Stream {
-    PathTags,
-    PathData,
-    DrawTags,
-    DrawData,
-    Transforms,
-    Styles,
+    PathTags = 0,
+    PathData = 1,
+    DrawTags = 2,
+    DrawData = 3,
+    Transforms = 4,
+    Styles = 5,
 }
 
 // The most words that the path data or the draw data may use, and the most entries of any other stream.
@@ -24,14 +24,7 @@ impl Stream {
     pub fn number(self) -> u32
         ensures { result ≡ stream_number self }
     {
-        match self {
-            Stream::PathTags => 0,
-            Stream::PathData => 1,
-            Stream::DrawTags => 2,
-            Stream::DrawData => 3,
-            Stream::Transforms => 4,
-            Stream::Styles => 5,
-        }
+        self as u32
     }
 
     /// The most entries that the stream may use.
@@ -46,7 +39,7 @@ impl Stream {
 }
 
 /// Why a call was declined.
-#[derive(Clone, Copy)]
+#[derive(Clone, Copy, Debug, PartialEq, Eq)]
 pub enum EncodeError {
     /// The stream has fewer entries than its used length says.
     ShortStream(Stream),
@@ -65,6 +58,7 @@ impl EncodeError {
     pub fn number(self) -> u32
         ensures { result ≡ number self }
     {
+        // A match, as a refusal that holds a stream has no discriminant of its own.
         match self {
             EncodeError::ShortStream(_) => 1,
             EncodeError::FullStream(_) => 2,

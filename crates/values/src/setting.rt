@@ -2,6 +2,7 @@
 ghost use Rattle.std.specs.Prelude.{◌≡◌, Bool};
 
 /// A value that can be compared with the one encoded last.
+// Each body is the derived `==`; the trait ties it to the specification's comparison, which generic code names.
 pub trait Setting: Copy {
     ghost same: { Self → Self → Bool };
 

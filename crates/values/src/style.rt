@@ -1,23 +1,23 @@
 // Styles of fills and strokes.
-ghost use Rattle.std.specs.Prelude.{◌≡◌, ℕ, ◌≤◌};
+ghost use Rattle.std.specs.Prelude.{◌≡◌, ℕ};
 ghost use Rattle.values.specs.Errors.{told};
-ghost use Rattle.values.specs.Settings.{same_style, fill_style, stroke_style, stroke_error, MiterHalf, join_bits, start_cap_bits, end_cap_bits};
+ghost use Rattle.values.specs.Settings.{same_style, fill_style, stroke_style, stroke_error, MiterHalf, join_bits, cap_bits};
 
 use crate::error::EncodeError;
 use crate::setting::Setting;
-use geometry::numbers::{all_finite, same_number};
+use geometry::numbers::all_finite;
 use math::f32_to_f16;
 use std::num::f32_to_bits_with_nan;
 
 /// Which points a fill takes for inside.
-#[derive(Clone, Copy)]
+#[derive(Clone, Copy, Debug, PartialEq, Eq)]
 pub enum Fill {
     NonZero,
     EvenOdd,
 }
 
 /// How two segments of a stroke are joined.
-#[derive(Clone, Copy)]
+#[derive(Clone, Copy, Debug, PartialEq, Eq)]
 pub enum Join {
     Bevel,
     Miter,
@@ -25,7 +25,7 @@ pub enum Join {
 }
 
 /// How an end of a stroke looks.
-#[derive(Clone, Copy)]
+#[derive(Clone, Copy, Debug, PartialEq, Eq)]
 pub enum Cap {
     Butt,
     Square,
@@ -33,7 +33,7 @@ pub enum Cap {
 }
 
 /// A stroke as it is asked for.
-#[derive(Clone, Copy)]
+#[derive(Clone, Copy, Debug, PartialEq)]
 pub struct Stroke {
     pub width: f32,
     pub join: Join,
@@ -42,8 +42,8 @@ pub struct Stroke {
     pub end_cap: Cap,
 }
 
-/// One entry of the style stream.
-#[derive(Clone, Copy)]
+/// One entry of the style stream. Its layout and the names below are the crate's, so the flags are one word.
+#[derive(Clone, Copy, Debug, PartialEq)]
 #[repr(C)]
 pub struct Style {
     /// What is drawn and how, and in the low 16 bits the half of a stroke's miter limit.
@@ -106,14 +106,22 @@ impl Style {
         if !all_finite(&[stroke.width, stroke.miter_limit]) {
             return Err(EncodeError::NotFinite);
         }
-        if same_number(stroke.width, 0.0) {
+        if stroke.width == 0.0 {
             return Err(EncodeError::ZeroWidth);
         }
         Ok(Style {
             flags_and_miter_limit: Style::FLAGS_STYLE_BIT
                 + join_bits(stroke.join)
-                + start_cap_bits(stroke.start_cap)
-                + end_cap_bits(stroke.end_cap)
+                + cap_bits(
+                    stroke.start_cap,
+                    Style::FLAGS_START_CAP_BITS_SQUARE,
+                    Style::FLAGS_START_CAP_BITS_ROUND,
+                )
+                + cap_bits(
+                    stroke.end_cap,
+                    Style::FLAGS_END_CAP_BITS_SQUARE,
+                    Style::FLAGS_END_CAP_BITS_ROUND,
+                )
                 + miter_limit,
             line_width: stroke.width,
         })
@@ -121,8 +129,7 @@ impl Style {
 }
 
 fn join_bits(join: Join) -> u32
-    ensures bits { result ≡ join_bits join }
-    ensures most { result ≤ 0x20000000 }
+    ensures { result ≡ join_bits join }
 {
     match join {
         Join::Bevel => Style::FLAGS_JOIN_BITS_BEVEL,
@@ -131,25 +138,14 @@ fn join_bits(join: Join) -> u32
     }
 }
 
-fn start_cap_bits(cap: Cap) -> u32
-    ensures bits { result ≡ start_cap_bits cap }
-    ensures most { result ≤ 0x08000000 }
+// The bits of a cap at one end of a stroke, where `square` and `round` stand for those caps and a butt has none.
+fn cap_bits(cap: Cap, square: u32, round: u32) -> u32
+    ensures { result ≡ cap_bits square round cap }
 {
     match cap {
-        Cap::Butt => Style::FLAGS_START_CAP_BITS_BUTT,
-        Cap::Square => Style::FLAGS_START_CAP_BITS_SQUARE,
-        Cap::Round => Style::FLAGS_START_CAP_BITS_ROUND,
-    }
-}
-
-fn end_cap_bits(cap: Cap) -> u32
-    ensures bits { result ≡ end_cap_bits cap }
-    ensures most { result ≤ 0x02000000 }
-{
-    match cap {
-        Cap::Butt => Style::FLAGS_END_CAP_BITS_BUTT,
-        Cap::Square => Style::FLAGS_END_CAP_BITS_SQUARE,
-        Cap::Round => Style::FLAGS_END_CAP_BITS_ROUND,
+        Cap::Butt => 0,
+        Cap::Square => square,
+        Cap::Round => round,
     }
 }
 
@@ -157,7 +153,6 @@ impl Setting for Style {
     ghost same = { same_style };
 
     fn is_same(self, other: Style) -> bool {
-        self.flags_and_miter_limit == other.flags_and_miter_limit
-            && same_number(self.line_width, other.line_width)
+        self == other
     }
 }

@@ -3,10 +3,10 @@ ghost use Rattle.std.specs.Prelude.{◌≡◌};
 ghost use Rattle.values.specs.Settings.{same_transform, finite_transform};
 
 use crate::setting::Setting;
-use geometry::numbers::{all_finite, same_numbers};
+use geometry::numbers::all_finite;
 
 /// An affine map of the plane: the columns of its linear part, and where it takes the origin.
-#[derive(Clone, Copy)]
+#[derive(Clone, Copy, Debug, PartialEq)]
 #[repr(C)]
 pub struct Transform {
     pub matrix: [f32; 4],
@@ -25,8 +25,8 @@ impl Transform {
 impl Setting for Transform {
     ghost same = { same_transform };
 
+    #[tactic(auto, unfolding(geometry::specs::Numbers::same_numbers))]
     fn is_same(self, other: Transform) -> bool {
-        same_numbers(&self.matrix, &other.matrix)
-            && same_numbers(&self.translation, &other.translation)
+        self == other
     }
 }
