@@ -29,7 +29,7 @@ pub fn point_of(x: f32, y: f32) -> Point
 pub fn is_same_point(p: Point, q: Point) -> bool
     ensures { result ≡ same_point p q }
 {
-    (p.x == q.x) & (p.y == q.y)
+    p == q
 }
 
 /// A segment past the point that it starts from.

@@ -1,7 +1,9 @@
 -- The single that a half is: it is the only one, and rounds back to the half.
-use Rattle.std.proofs.Common.{◌≡◌, ℕ, zero, suc, ◌+◌, ◌-◌, ◌*◌, ◌/◌, ◌%◌, ◌^◌, ◌<◌, ◌≤◌, sym, ap, ◌∙◌, subst, inl, inr, le_of_lt, mul_assoc, eq-or-lt_of_le, mul_left_comm, arith, lit<, pow-add}
-use native.Mathlib.Nat.{pow-succ'}
+use Rattle.std.proofs.Common.{◌≡◌, ℕ, suc, ◌+◌, ◌-◌, ◌*◌, ◌/◌, ◌%◌, ◌^◌, ◌<◌, ◌≤◌, sym, refl, ap, ◌∙◌, subst, inl, inr, le_of_lt, mul-le-mul_right, mul_assoc, eq-or-lt_of_le, mul-lt-mul_of_pos_right, mul_left_comm, arith, lit<, pow_pos, pow-add}
+use native.Mathlib.Nat.{pow-le-pow_right, pow-succ'}
 use lib.Arith.{digits_div, digits_mod}
+use lib.Count.{count_leading_zeros}
+use Rattle.std.proofs.lemmas.Nat.{leading_top}
 use Rattle.math.specs.Sizes.{half_steps, single_size, half_size}
 use Rattle.math.specs.Halves.{Nearest, Rounded, RoundsTo, Exact, WidensTo}
 use Rattle.math.proofs.Sizes.{two_ways, mono, at, same_size, half_at, half_small, big, single-none, greatest}
@@ -52,13 +54,51 @@ zero_exact n h =
       unsigned = lit< tt;
     }
 
-pub again : (n m j : ℕ) → 0 < n → m < 1024 → m * 2 ^ j ≡ n * 1024 → m * 2 * 2 ^ (j - 1) ≡ n * 1024
-again n m zero np mb e = absurd (omega arith)
-again n m (suc j) np mb e =
-    let q : suc j - 1 ≡ j = omega arith in
-    let x : m * 2 * 2 ^ (suc j - 1) ≡ m * 2 * 2 ^ j = ap (λ (i : ℕ). m * 2 * 2 ^ i) q in
-    let y : m * 2 ^ suc j ≡ m * (2 * 2 ^ j) = ap (λ (i : ℕ). m * i) (pow-succ' 2 j) in
-    omega (arith, mul_assoc m 2 (2 ^ j))
+-- ---- a subnormal half, its leading digit moved up to 1024
+
+place_1024 : count_leading_zeros 32 1024 ≡ 21
+unfolding count_leading_zeros
+place_1024 = refl
+
+pub record Leading (n s : ℕ) : Type 0 where
+  pub above : count_leading_zeros 32 1024 ≤ count_leading_zeros 32 n
+  pub within : s ≤ 10
+  pub whole : n * 2 ^ s % 4294967296 ≡ n * 2 ^ s
+  pub low : 1024 ≤ n * 2 ^ s
+  pub high : n * 2 ^ s < 2048
+
+pub leading : (n : ℕ) → 0 < n → n < 1024 → Leading n (count_leading_zeros 32 n - count_leading_zeros 32 1024)
+leading n np nb = record { above = omega (arith, jb, place_1024, t.1); within = omega (arith, place_1024, t.1); whole = omega (arith, high); low = omega (arith, ten, up); high = high }
+  where
+    t : (j : ℕ) × (count_leading_zeros 32 n + suc j ≡ 32) × (2 ^ j ≤ n) × (n < 2 ^ suc j)
+    t = leading_top 32 n np (omega arith)
+
+    s : ℕ
+    s = count_leading_zeros 32 n - count_leading_zeros 32 1024
+
+    jb : t.0 < 10
+    jb = elim (two_ways t.0 10) [ inl h ↦ h | inr h ↦ absurd (omega (arith, t.2, pow-le-pow_right {n = 2} (lit< tt) h)) ]
+
+    ten : 2 ^ t.0 * 2 ^ s ≡ 1024
+    ten = let e : t.0 + s ≡ 10 = omega (arith, jb, place_1024, t.1) in sym (pow-add 2 t.0 s) ∙ ap (λ (i : ℕ). 2 ^ i) e
+
+    up : 2 ^ t.0 * 2 ^ s ≤ n * 2 ^ s
+    up = mul-le-mul_right (2 ^ s) t.2
+
+    high : n * 2 ^ s < 2048
+    high =
+        let a : n * 2 ^ s < 2 ^ suc t.0 * 2 ^ s = mul-lt-mul_of_pos_right t.3 (pow_pos s) in
+        omega (arith, a, ten, pow-succ' 2 t.0, mul_assoc 2 (2 ^ t.0) (2 ^ s), ap (λ (i : ℕ). i * 2 ^ s) (pow-succ' 2 t.0))
+
+pub shifted_exact : (n s : ℕ) → 0 < n → n < 1024 → Leading n s → Exact n ((112 - s) * 8388608 + n * 2 ^ s % 4294967296 * 8192)
+shifted_exact n s np nb x =
+    let j : ℕ = 10 - s in
+    let e : s + j ≡ 10 = omega (arith, x.within) in
+    let p : 102 + j ≡ 112 - s = omega (arith, x.within) in
+    let m : n * 2 ^ s % 4294967296 * 2 ^ j ≡ n * 1024 =
+    ap (λ (i : ℕ). i * 2 ^ j) x.whole ∙ mul_assoc n (2 ^ s) (2 ^ j) ∙ ap (λ (i : ℕ). n * i) (sym (pow-add 2 s j) ∙ ap (λ (i : ℕ). 2 ^ i) e) in
+    subst (λ (i : ℕ). Exact n (i * 8388608 + n * 2 ^ s % 4294967296 * 8192)) p
+    (small_exact n (n * 2 ^ s % 4294967296) j np nb m (omega (arith, x.whole, x.low)) (omega (arith, x.whole, x.high)) (omega arith))
 
 pub signed : (h u : ℕ) → Exact (h % 0x8000) u → WidensTo h (h / 0x8000 * 0x80000000 + u)
 signed h u x = record {

@@ -87,13 +87,8 @@ fn widen_subnormal(n: u32) -> u32
     requires to { n < 1024 }
     ensures { Exact n result }
 {
-    let mut significand = n;
-    let mut exponent = 10;
-    while significand < EXPONENT_16 {
-        significand *= 2;
-        exponent -= 1;
-    }
-    (102 + exponent) * EXPONENT_32 + significand * FRACTION_STEP
+    let shift = n.leading_zeros() - EXPONENT_16.leading_zeros();
+    (112 - shift) * EXPONENT_32 + (n << shift) * FRACTION_STEP
 }
 
 // The single of a half without its sign.
