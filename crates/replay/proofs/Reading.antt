@@ -1,7 +1,9 @@
 -- Entries that are read by a count, and tables that are filled by counting. Assumes nothing.
-use Rattle.std.proofs.Common.{◌≡◌, ℕ, zero, suc, ◌+◌, ◌-◌, ◌<◌, ◌≤◌, Bool, true, false, cond, not, eqb, ◌⊎◌, List, [], ◌∷◌, length, get_or, take, drop, set, Some, None, sym, refl, ap, ◌∙◌, subst, inl, inr, arith, length-set, length-take, take_all, take-add, rules}
-use Rattle.std.specs.List.{slice_get}
-use Rattle.std.proofs.lemmas.List.{get_or-take, get_or-drop, get_or_past, get_or_default, take_more, get_or-set_same, get_or-set_other}
+use Rattle.std.proofs.Common.{◌≡◌, ℕ, zero, suc, ◌+◌, ◌-◌, ◌<◌, ◌≤◌, Bool, true, false, cond, not, eqb, ◌⊎◌, List, [], ◌∷◌, length, get_or, take, drop, set, sym, refl, ap, ◌∙◌, subst, inl, inr, arith, length-set, length-take, take_all, take-add, rules}
+use Rattle.std.specs.Array.{IsFromFnResult, IsFromFnResultFrom}
+use Rattle.std.specs.Fn.{Called}
+use denote.Param.Members.{Mut}
+use Rattle.std.proofs.lemmas.List.{get_or_default, take_more, get_or-set_same, get_or-set_other}
 use Rattle.std.proofs.lemmas.Bool.{cases_eq}
 use Rattle.monoid.specs.declared.path.PathTag.{PathTag}
 use Rattle.monoid.specs.declared.draw.DrawTag.{DrawTag}
@@ -13,46 +15,38 @@ use Rattle.monoid.specs.Packing.{blank, word}
 use Rattle.monoid.proofs.Reducing.{reduced-append, reduced-one}
 use Rattle.monoid.proofs.Packs.{plus_laws, packed-counts}
 use Rattle.monoid.specs.Bounds.{draws_few, tags_few}
-use Rattle.replay.specs.Wanted.{counted, last_counted, drawn_total, words_in}
+use Rattle.replay.specs.Wanted.{counted, drawn_total, words_in}
 use Rattle.values.specs.declared.transform.Transform.{Transform}
 use Rattle.values.specs.declared.style.Style.{Style}
 use Rattle.replay.specs.declared.reader.ShownSegment.{ShownSegment}
 use Rattle.replay.specs.declared.reader.ShownCommand.{ShownCommand}
-use Rattle.replay.specs.Reading.{eight_at, segment-at, command_at, SegmentsRead, CommandsRead}
+use Rattle.replay.specs.Reading.{filled, eight_at, segment-at, command_at, SegmentsRead, CommandsRead}
 use Rattle.replay.proofs.Shown.{total}
 use Rattle.replay.proofs.Backward.{log-read, commands-logged}
 
-nth_past : {A : Type 0} (xs : List A) (n : ℕ) → length xs ≤ n → slice_get xs n ≡ None
-nth_past [] zero h = refl
-nth_past [] (suc n) h = refl
-nth_past (x ∷ xs) zero h = absurd (omega arith)
-nth_past (x ∷ xs) (suc n) h = nth_past xs n (omega arith)
+-- calls that leave the callee as it is gave the value of each number
+gave_each : {F : Type 0} (g : Mut F (ℕ × Unit {0}) ℕ) (v : ℕ → ℕ) (f : F) → ((i y : ℕ) (f' : F) → Called g f (i, tt) y f' → (y ≡ v i) × (f' ≡ f)) → (ys : List ℕ) (i n : ℕ) → IsFromFnResultFrom g f ys i n → (j : ℕ) → j < n → get_or ys (i + j) 0 ≡ v (i + j)
+gave_each g v f same ys i zero h j l = absurd (omega arith)
+gave_each g v f same ys i (suc n) h zero l =
+    let e : i + 0 ≡ i = omega arith in
+    subst (λ k. get_or ys k 0 ≡ v k) (sym e) (h.2.1 0 ∙ (same i h.1 h.0 h.3).0)
+gave_each g v f same ys i (suc n) h (suc j) l =
+    let e : i + 1 + j ≡ i + suc j = omega arith in
+    let s = same i h.1 h.0 h.3 in
+    subst (λ k. get_or ys k 0 ≡ v k) e (gave_each g v f same ys (i + 1) n (subst (λ x. IsFromFnResultFrom g x ys (i + 1) n) s.1 h.4) j (omega arith))
 
-nth_get : {A : Type 0} (xs : List A) (n : ℕ) (d : A) → n < length xs → slice_get xs n ≡ Some (get_or xs n d)
-nth_get [] n d h = absurd (omega arith)
-nth_get (x ∷ xs) zero d h = refl
-nth_get (x ∷ xs) (suc n) d h = nth_get xs n d (omega arith)
+row_filled : (k : ℕ) (ys xs : List ℕ) → length ys ≡ k → ((i : ℕ) → i < k → get_or ys i 0 ≡ get_or xs i 0) → ys ≡ filled k xs
+row_filled zero [] xs n h = refl
+row_filled zero (y ∷ ys) xs n h = absurd (omega arith)
+row_filled (suc k) [] xs n h = absurd (omega arith)
+row_filled (suc k) (y ∷ ys) [] n h = (λ i. h 0 (omega arith) i ∷ row_filled k ys [] (omega arith) (λ j l. h (suc j) (omega arith)) i)
+row_filled (suc k) (y ∷ ys) (x ∷ xs) n h = (λ i. h 0 (omega arith) i ∷ row_filled k ys xs (omega arith) (λ j l. h (suc j) (omega arith)) i)
 
-pub counted_none : {A : Type 0} (xs : List A) (n : ℕ) → length xs < n → None ≡ last_counted xs n
-counted_none xs zero h = absurd (omega arith)
-counted_none xs (suc n) h = sym (nth_past xs n (omega arith))
-
-pub counted-some : {A : Type 0} (xs : List A) (n : ℕ) (x : A) → 0 < n → n ≤ length xs → x ≡ get_or xs (n - 1) x → Some x ≡ last_counted xs n
-counted-some xs zero x h l e = absurd (omega arith)
-counted-some xs (suc n) x h l e =
-    let same : suc n - 1 ≡ n = omega arith in
-    ap Some (e ∙ ap (λ k. get_or xs k x) same) ∙ sym (nth_get xs n x (omega arith))
-
--- a word of those from an offset on
-
-pub word_in : (ws : List ℕ) (off n i : ℕ) → i < n → get_or ws (off + i) 0 ≡ get_or (take n (drop off ws)) i 0
-word_in ws off n i h = sym (get_or-take n (drop off ws) i 0 h ∙ get_or-drop off ws i 0)
-
-pub word_past : (ws : List ℕ) (off n i : ℕ) → i < n → length ws ≤ off + i → 0 ≡ get_or (take n (drop off ws)) i 0
-word_past ws off n i h l = sym (get_or_past ws (off + i) 0 l) ∙ word_in ws off n i h
-
-pub no_word : (ws : List ℕ) (off n i : ℕ) → n ≤ i → 0 ≡ get_or (take n (drop off ws)) i 0
-no_word ws off n i h = sym (get_or_past (take n (drop off ws)) i 0 (simp length-take (omega arith)))
+pub row_of_calls : {F : Type 0} (g : Mut F (ℕ × Unit {0}) ℕ) (f : F) (ys xs : List ℕ) → ((i y : ℕ) (f' : F) → Called g f (i, tt) y f' → (y ≡ get_or xs i 0) × (f' ≡ f)) → IsFromFnResult g f ys 8 → ys ≡ filled 8 xs
+row_of_calls g f ys xs same h =
+    row_filled 8 ys xs h.long (λ i l.
+    let e : 0 + i ≡ i = omega arith in
+    subst (λ k. get_or ys k 0 ≡ get_or xs k 0) e (gave_each g (λ k. get_or xs k 0) f same ys 0 8 h.each i l))
 
 -- rows are filled one after the other: each has what P says of its number, and those past them are as they were
 pub record Filled {R : Type 0} (P : ℕ → R → Type 0) (was rows : List R) (n : ℕ) : Type 0 where
@@ -118,12 +112,6 @@ module _ (ts : List PathTag) (i : ℕ) (d : PathTag) (l : i < length ts) (few : 
       let k = tags_few (take (i + 1) ts) in
       let n : length (take (i + 1) ts) ≤ most = simp length-take (omega arith) in
       subst Small (sym tags_more) (omega arith, omega arith, omega arith, omega arith, omega arith)
-
--- a write past the end
-pub set_past : {R : Type 0} (xs : List R) (i : ℕ) (x : R) → length xs ≤ i → xs ≡ set xs i x
-set_past [] i x h = refl
-set_past (y ∷ xs) zero x h = absurd (omega arith)
-set_past (y ∷ xs) (suc i) x h = ap (λ l. y ∷ l) (set_past xs i x (omega arith))
 
 -- what the row of a draw tag has, and that of a segment, whatever place it stands at
 

@@ -7,6 +7,7 @@ ghost use Rattle.replay.specs.Reading.{eight_at, segment-at, command_at, Command
 use monoid::draw::{DrawMonoid, DrawTag};
 use monoid::path::{PathMonoid, PathTag};
 use monoid::{CountError, MAX_SOURCES, Monoid};
+use std::array;
 use values::style::Style;
 use values::transform::Transform;
 
@@ -34,13 +35,7 @@ pub struct ShownCommand {
 fn last_counted<T: Copy>(entries: &[T], n: usize) -> Option<T>
     ensures { result ≡ last_counted entries.now n }
 {
-    if n == 0 {
-        return None;
-    }
-    if n > entries.len() {
-        return None;
-    }
-    Some(entries[n - 1])
+    entries.get(n.checked_sub(1)?).copied()
 }
 
 // The word at place `i` of the `n` words from an offset on, or zero.
@@ -48,33 +43,21 @@ fn word_at(words: &[u32], offset: u32, n: usize, i: usize) -> u32
     requires { i < 8 }
     ensures { result ≡ slice_index (take n (drop offset words.now)) i }
 {
-    if i >= n {
-        return 0;
+    if i < n {
+        words.get(offset as usize + i).copied().unwrap_or(0)
+    } else {
+        0
     }
-    let place = offset as usize + i;
-    if place >= words.len() {
-        return 0;
-    }
-    words[place]
 }
 
 // A row of the `n` words from an offset on.
 fn eight_at(words: &[u32], offset: u32, n: usize) -> [u32; 8]
     ensures { result ≡ eight_at words.now offset n }
 {
-    [
-        word_at(words, offset, n, 0),
-        word_at(words, offset, n, 1),
-        word_at(words, offset, n, 2),
-        word_at(words, offset, n, 3),
-        word_at(words, offset, n, 4),
-        word_at(words, offset, n, 5),
-        word_at(words, offset, n, 6),
-        word_at(words, offset, n, 7),
-    ]
+    array::from_fn(|i| word_at(words, offset, n, i))
 }
 
-// A segment at the offsets that were counted before it.
+// A segment at the offsets that were counted before it. The three streams go together here alone: a struct of them is longer.
 fn segment_at(
     path_data: &[u32],
     transforms: &[Transform],
@@ -93,7 +76,7 @@ fn segment_at(
     }
 }
 
-// Writes a row, if the table has it.
+// Writes a row, if the table has it. A proof knows no element of a slice after `get_mut`, so this is an index write.
 fn put<T: Copy>(table: &mut [T], row: usize, value: T)
     ensures { table.new ≡ slice_set table.old row value }
 {
@@ -123,11 +106,10 @@ pub fn read_commands(
         return Err(CountError::TooManySources);
     }
     let mut before = DrawMonoid::identity();
-    for i in 0..draw_tags.len() {
-        let tag = draw_tags[i];
-        let own = DrawMonoid::new(tag);
+    for (i, tag) in draw_tags.iter().enumerate() {
+        let own = DrawMonoid::new(*tag);
         let words = eight_at(draw_data, before.scene_offset, own.scene_offset as usize);
-        put(table, i, ShownCommand { tag, words });
+        put(table, i, ShownCommand { tag: *tag, words });
         before = before.combine_fitting(&own);
     }
     Ok(draw_tags.len())
@@ -147,9 +129,8 @@ pub fn read_segments(
         return Err(CountError::TooManySources);
     }
     let mut before = PathMonoid::identity();
-    for i in 0..path_tags.len() {
-        let tag = path_tags[i];
-        let shown = segment_at(path_data, transforms, styles, before, tag);
+    for tag in path_tags {
+        let shown = segment_at(path_data, transforms, styles, before, *tag);
         put_segment(table, before.pathseg_ix as usize, shown);
         before = before.combine_fitting(&PathMonoid::new(tag.0 as u32));
     }
