@@ -6,12 +6,11 @@ ghost use Rattle.geometry.specs.Tangents.{apart, far, third_of, third_to, third_
 /// Differences up to this one do not tell points apart.
 pub const EPSILON: f32 = 1e-12;
 
-// Without a branch, since the sign of the difference is anything.
+// Whether the size of the difference exceeds epsilon, with no branch on its sign.
 fn is_apart(a: f32, b: f32) -> bool
     ensures { result ≡ apart a b }
 {
-    let d = a - b;
-    (d > EPSILON) | (d < -EPSILON)
+    (a - b).abs() > EPSILON
 }
 
 /// Whether two points are far apart, in x or in y.
