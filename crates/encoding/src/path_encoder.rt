@@ -11,7 +11,6 @@ mod elements;
 mod finish;
 mod opening;
 mod relay;
-mod steps;
 
 /// An open path, which holds the Encoding as it was when the path was opened. Only `finish` and `abandon`
 /// give the Encoding back.

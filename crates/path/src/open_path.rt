@@ -8,6 +8,9 @@ use geometry::points::Point;
 mod calls;
 mod cycle;
 mod space;
+mod steps;
+
+pub use crate::open_path::steps::{Close, Move, PathStep};
 
 /// An open path, which writes to the entries that each call lends it, from their start on. It uses the first `tags`
 /// tags and the first `words` words; the segments that it has counted are its tags.

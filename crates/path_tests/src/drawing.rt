@@ -1,5 +1,5 @@
 // What the tests draw with.
-use geometry::points::{Point, Segment};
+use geometry::points::Point;
 use monoid::path::PathTag;
 use path::open_path::OpenPath;
 use path::state::{Call, Declined, Step, Stream, Used};
@@ -21,22 +21,6 @@ pub fn blank_words() -> [u32; 32] {
     [0xaaaa_aaaa; 32]
 }
 
-// Takes one step.
-pub fn take(
-    path: &mut OpenPath,
-    tags: &mut [PathTag],
-    words: &mut [u32],
-    step: Step,
-) -> Result<(), Declined> {
-    match step {
-        Step::Move(p) => path.try_move_to(tags, words, p),
-        Step::Draw(Segment::Line(p)) => path.try_line_to(tags, words, p),
-        Step::Draw(Segment::Quad(p, q)) => path.try_quad_to(tags, words, p, q),
-        Step::Draw(Segment::Cubic(p, q, r)) => path.try_cubic_to(tags, words, p, q, r),
-        Step::Close => path.try_close(tags, words),
-    }
-}
-
 // Takes the steps of a list: whether all were accepted.
 pub fn take_all(
     path: &mut OpenPath,
@@ -45,7 +29,7 @@ pub fn take_all(
     steps: &[Step],
 ) -> bool {
     for step in steps {
-        if take(path, tags, words, *step).is_err() {
+        if path.try_take(tags, words, *step).is_err() {
             return false;
         }
     }
@@ -61,7 +45,7 @@ pub fn make(
 ) -> Result<Used, Declined> {
     match call {
         Call::Take(step) => {
-            take(&mut path, tags, words, step)?;
+            path.try_take(tags, words, step)?;
             Ok(path.used())
         }
         Call::Finish(insert_path_marker) => match path.try_finish(tags, words, insert_path_marker) {

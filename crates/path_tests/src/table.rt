@@ -1,8 +1,9 @@
 // Every state against every call, of a fill and of a stroke.
-use crate::drawing::{FILL, STROKE, at, blank_tags, blank_words, tags_are, take};
+use crate::drawing::{FILL, STROKE, at, blank_tags, blank_words, tags_are};
+use geometry::curves::Line;
 use geometry::points::{Point, Segment};
 use monoid::path::PathTag;
-use path::open_path::OpenPath;
+use path::open_path::{Close, Move, OpenPath};
 use path::state::{Call, Declined, Step, Used};
 use std::process::Abort;
 use std::test::Fail;
@@ -305,13 +306,13 @@ fn brought_to(
     match before {
         Before::Opened => Ok(()),
         Before::Closed => {
-            path.try_move_to(tags, words, point(0, 0))?;
-            path.try_close(tags, words)
+            path.try_take(tags, words, Move(point(0, 0)))?;
+            path.try_take(tags, words, Close)
         }
-        Before::Moved => path.try_move_to(tags, words, point(0, 0)),
+        Before::Moved => path.try_take(tags, words, Move(point(0, 0))),
         Before::Drawn => {
-            path.try_move_to(tags, words, point(0, 0))?;
-            path.try_line_to(tags, words, point(3, 0))
+            path.try_take(tags, words, Move(point(0, 0)))?;
+            path.try_take(tags, words, Line(point(3, 0)))
         }
     }
 }
@@ -357,7 +358,7 @@ fn check_row(rt: &impl Abort, row: Row) -> Result<(), Fail> {
     assert!(rt; brought_to(before, &mut path, &mut own_tags, &mut own_words).is_ok());
     let mut insert_path_marker = true;
     if let Call::Take(step) = call_of(then) {
-        assert!(rt; take(&mut path, &mut own_tags, &mut own_words, step).is_ok());
+        assert!(rt; path.try_take(&mut own_tags, &mut own_words, step).is_ok());
         assert!(rt; entries_are(&own_tags, &own_words, path.used(), tags, words));
         insert_path_marker = false;
     }

@@ -10,11 +10,11 @@ ghost use Rattle.encoding.specs.Inner.{Passed, tags_used, words_used};
 
 use crate::path_encoder::PathEncoder;
 use crate::path_encoder::relay::relay;
-use crate::path_encoder::steps::{Close, Move, PathStep};
 use crate::streams::held;
 use geometry::curves::{Cubic, Line, Quad, point_of};
 use geometry::numbers::all_finite;
 use monoid::path::PathTag;
+use path::open_path::{Close, Move, PathStep};
 use values::error::{EncodeError, Stream};
 
 impl PathEncoder {
@@ -51,17 +51,17 @@ impl PathEncoder {
         is_finite: bool,
         step: S,
     ) -> Result<(), EncodeError>
-        ensures { OnPath (step_rule is_finite (S.PathStep.step step)) self.old path_tags.old path_data.old result self.new path_tags.new path_data.new }
+        ensures { OnPath (step_rule is_finite (S.step step)) self.old path_tags.old path_data.old result self.new path_tags.new path_data.new }
     {
         self.admit(path_tags, path_data, is_finite)?;
         let tags = self.encoding.path_tags;
         let words = self.encoding.path_data;
         let tags_end = path_tags.len().min(Stream::PathTags.max_entries());
         let words_end = path_data.len().min(Stream::PathData.max_entries());
-        let answer = step.take(
-            &mut self.path,
+        let answer = self.path.try_take(
             &mut path_tags[tags..tags_end],
             &mut path_data[words..words_end],
+            step,
         );
         relay(answer)
     }

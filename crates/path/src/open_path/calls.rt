@@ -1,8 +1,6 @@
 // The calls on an open path, each declined, with nothing changed, where it lacks space.
 ghost use Rattle.std.specs.Prelude.{◌≡◌, ℕ, List};
-ghost use Rattle.geometry.specs.declared.points.Segment.TheVariants as Of;
 ghost use Rattle.monoid.specs.declared.path.PathTag.{PathTag};
-ghost use Rattle.path.specs.declared.state.Step.TheVariants.{Move, Draw, Close};
 ghost use Rattle.path.specs.declared.state.Call.TheVariants.{Take};
 ghost use Rattle.path.specs.Rules.{fresh};
 ghost use Rattle.path.specs.Theorems.{AfterAnySteps, OneEnd};
@@ -10,8 +8,9 @@ ghost use Rattle.path.specs.View.{lent, view};
 ghost use Rattle.path.specs.Calls.{in_use, Answered, Ended};
 
 use crate::open_path::OpenPath;
-use crate::state::{Call, Declined, Finished, PathState, Step, Used};
-use geometry::points::{Point, Segment};
+use crate::open_path::steps::PathStep;
+use crate::state::{Call, Declined, Finished, PathState, Used};
+use geometry::points::Point;
 use monoid::path::PathTag;
 
 impl OpenPath {
@@ -44,75 +43,17 @@ impl OpenPath {
         }
     }
 
-    /// Begins another subpath.
-    pub fn try_move_to(
+    /// Takes a step.
+    pub fn try_take<S: PathStep>(
         &mut self,
         tags: &mut [PathTag],
         words: &mut [u32],
-        p: Point,
+        step: S,
     ) -> Result<(), Declined>
-        ensures { Answered (Take (Move p)) (lent self.old tags.old words.old) result (lent self.new tags.new words.new) }
+        ensures { Answered (Take (S.step step)) (lent self.old tags.old words.old) result (lent self.new tags.new words.new) }
     {
-        self.admit(tags, words, Call::Take(Step::Move(p)))?;
-        self.move_to(tags, words, p);
-        Ok(())
-    }
-
-    /// Draws a line.
-    pub fn try_line_to(
-        &mut self,
-        tags: &mut [PathTag],
-        words: &mut [u32],
-        p: Point,
-    ) -> Result<(), Declined>
-        ensures { Answered (Take (Draw (Of.Line p))) (lent self.old tags.old words.old) result (lent self.new tags.new words.new) }
-    {
-        if self.is_roomy(tags.len(), words.len()) {
-            self.line_on(tags, words, p);
-            return Ok(());
-        }
-        self.admit_closely(tags, words, Call::Take(Step::Draw(Segment::Line(p))))?;
-        self.line_to(tags, words, p);
-        Ok(())
-    }
-
-    /// Draws a quadratic.
-    pub fn try_quad_to(
-        &mut self,
-        tags: &mut [PathTag],
-        words: &mut [u32],
-        p: Point,
-        q: Point,
-    ) -> Result<(), Declined>
-        ensures { Answered (Take (Draw (Of.Quad p q))) (lent self.old tags.old words.old) result (lent self.new tags.new words.new) }
-    {
-        self.admit(tags, words, Call::Take(Step::Draw(Segment::Quad(p, q))))?;
-        self.quad_to(tags, words, p, q);
-        Ok(())
-    }
-
-    /// Draws a cubic.
-    pub fn try_cubic_to(
-        &mut self,
-        tags: &mut [PathTag],
-        words: &mut [u32],
-        p: Point,
-        q: Point,
-        r: Point,
-    ) -> Result<(), Declined>
-        ensures { Answered (Take (Draw (Of.Cubic p q r))) (lent self.old tags.old words.old) result (lent self.new tags.new words.new) }
-    {
-        self.admit(tags, words, Call::Take(Step::Draw(Segment::Cubic(p, q, r))))?;
-        self.cubic_to(tags, words, p, q, r);
-        Ok(())
-    }
-
-    /// Closes the subpath.
-    pub fn try_close(&mut self, tags: &mut [PathTag], words: &mut [u32]) -> Result<(), Declined>
-        ensures { Answered (Take Close) (lent self.old tags.old words.old) result (lent self.new tags.new words.new) }
-    {
-        self.admit(tags, words, Call::Take(Step::Close))?;
-        self.close(tags, words);
+        self.admit(tags, words, step)?;
+        step.take(self, tags, words);
         Ok(())
     }
 

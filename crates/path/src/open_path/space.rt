@@ -1,13 +1,14 @@
 // The space that a call on an open path wants, before anything is changed.
 ghost use Rattle.std.specs.Prelude.{◌≡◌, ◌-◌, ◌≤◌, ◌++◌, length, take};
+ghost use Rattle.path.specs.declared.state.Call.TheVariants.{Take};
 ghost use Rattle.path.specs.Rules.{call as call-rule};
 ghost use Rattle.path.specs.Space.{used_by, lacks, roomy};
 ghost use Rattle.path.specs.View.{lent, view, Held, Ready, Does};
 ghost use Rattle.path.specs.Calls.{in_use, declined, said, needs};
 
 use crate::open_path::OpenPath;
-use crate::state::{Call, Declined, Step, Stream, Used};
-use geometry::points::Segment;
+use crate::open_path::steps::{PathStep, Taken};
+use crate::state::{Call, Declined, Stream, Used};
 use monoid::path::PathTag;
 
 // The most that one call adds.
@@ -43,11 +44,7 @@ impl OpenPath {
         ensures { Does (call-rule call) (lent self.old tags.old words.old) (lent self.new tags.new words.new) }
     {
         match call {
-            Call::Take(Step::Move(p)) => self.move_to(tags, words, p),
-            Call::Take(Step::Draw(Segment::Line(p))) => self.line_to(tags, words, p),
-            Call::Take(Step::Draw(Segment::Quad(p, q))) => self.quad_to(tags, words, p, q),
-            Call::Take(Step::Draw(Segment::Cubic(p, q, r))) => self.cubic_to(tags, words, p, q, r),
-            Call::Take(Step::Close) => self.close(tags, words),
+            Call::Take(step) => step.take(self, tags, words),
             Call::Finish(insert_path_marker) => {
                 let _ = self.finish(tags, words, insert_path_marker);
             }
@@ -117,13 +114,18 @@ impl OpenPath {
             && self.words <= words - MOST_WORDS
     }
 
-    // Whether a call can be made, at once where there is space for any.
-    pub(super) fn admit(&self, tags: &[PathTag], words: &[u32], call: Call) -> Result<(), Declined>
-        ensures { result ≡ said (declined call (lent self.now tags.now words.now)) }
+    // Whether a step can be taken, at once where there is space for any call.
+    pub(super) fn admit<S: PathStep>(
+        &self,
+        tags: &[PathTag],
+        words: &[u32],
+        step: S,
+    ) -> Result<(), Declined>
+        ensures { result ≡ said (declined (Take (S.step step)) (lent self.now tags.now words.now)) }
     {
         if self.is_roomy(tags.len(), words.len()) {
             return Ok(());
         }
-        self.admit_closely(tags, words, call)
+        self.admit_closely(tags, words, step.call())
     }
 }

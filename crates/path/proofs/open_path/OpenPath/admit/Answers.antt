@@ -1,7 +1,8 @@
--- Where there is space for any call, none is declined.
+-- Where there is space for any call, no step is declined.
+use Rattle.path.specs.declared.state.Call.TheVariants.{Take}
 use Rattle.path.specs.View.{lent}
 use Rattle.path.proofs.Answering.{said-roomy}
 use Rattle.path.proofs.open_path.OpenPath.admit.Goals as goal
 
 pub returns-then-is_roomy : goal.returns-then-is_roomy
-returns-then-is_roomy c = said-roomy c.args.call (lent c.args.self.now c.args.tags.now c.args.words.now) c.if-is_roomy.ensures
+returns-then-is_roomy g c = said-roomy (Take (g.S.Taken.step c.args.step)) (lent c.args.self.now c.args.tags.now c.args.words.now) c.if-is_roomy.ensures
