@@ -1,8 +1,9 @@
 -- An end meets a begin before it exactly when the tags between reduce to (0, 0). Assumes nothing.
-use Rattle.std.proofs.Common.{◌≡◌, ℕ, zero, suc, ◌+◌, ◌-◌, ◌<◌, ◌≤◌, min, Bool, true, false, cond, eqb, List, [], ◌∷◌, ◌++◌, length, get_or, take, drop, Some, None, Option, sym, refl, ap, ◌∙◌, subst, append_assoc, add-zero, zero-add, arith, length-append, ne_eqb}
+use Rattle.std.proofs.Common.{Bor, ◌≡◌, ℕ, zero, suc, ◌+◌, ◌-◌, ◌<◌, ◌≤◌, min, Bool, true, false, cond, eqb, List, [], ◌∷◌, ◌++◌, length, get_or, take, drop, Some, None, Option, sym, refl, ap, ◌∙◌, subst, append_assoc, add-zero, zero-add, arith, length-append, ne_eqb}
 use Rattle.std.proofs.lemmas.List.{get_or-take, drop_all, drop_more, drop-take, take-take, take-append-drop, length-take-le}
 use Rattle.std.proofs.ByRecursion.{All-push, All-weaker, All-drop}
 use Rattle.std.specs.List.{AllByRecursion as All}
+use Rattle.std.specs.Option.{option_eq, option_map, unwrap_or}
 use Rattle.monoid.specs.Laws.{reduced}
 use Rattle.monoid.specs.Clips.{Bic, bic, still, after, from_tag}
 use Rattle.monoid.specs.Meeting.{closing, opened, open_after, latest, met_by, MeetsByReduction}
@@ -188,18 +189,32 @@ as_other t p q =
     ap (λ b. cond b (bic 0 1) (cond (eqb t.0 0x21) (bic 1 0) still)) (ne_eqb t.0 0x49 p)
     ∙ ap (λ b. cond b (bic 1 0) still) (ne_eqb t.0 0x21 q)
 
+abbrev nop : DrawTag
+nop = record { 0 = 0 }
+
+-- whether a tag that was looked up is an end
+pub is_end : (got : Option (Bor DrawTag)) (same : Bor DrawTag → Bor DrawTag → Bool) (end : Bor DrawTag) → ((x : Bor DrawTag) → same x end ≡ eqb x.now.0 0x21) →
+    option_eq same got (Some end) ≡ eqb (unwrap_or (option_map (λ x. x.now) got) nop).0 0x21
+is_end None same end k = refl
+is_end (Some x) same end k = k x
+
+pub end_within : (ts : List DrawTag) (j : ℕ) → (get_or ts j nop).0 ≡ 0x21 → j < length ts
+end_within [] j h = absurd (omega arith)
+end_within (t ∷ ts) zero h = omega arith
+end_within (t ∷ ts) (suc j) h = let k = end_within ts j h in omega arith
+
 -- the answer for a tag that is no end, and for one that is
-pub not_met : (ts : List DrawTag) (j : ℕ) → ((get_or ts j (record { 0 = 0 })).0 ≡ 0x21 → ⊥) → (None ≡ met_by ts j) × MeetsByReduction ts j None
+pub not_met : (ts : List DrawTag) (j : ℕ) → ((get_or ts j nop).0 ≡ 0x21 → ⊥) → (None ≡ met_by ts j) × MeetsByReduction ts j None
 not_met ts j none = (
-  ap (λ b. cond b (latest (open_after 0 [] (take j ts))) None) (sym (ne_eqb (get_or ts j (record { 0 = 0 })).0 0x21 none)),
+  ap (λ b. cond b (latest (open_after 0 [] (take j ts))) None) (sym (ne_eqb (get_or ts j nop).0 0x21 none)),
   λ i less begins ends. absurd (none ends),
 )
 
-pub met : (ts : List DrawTag) (j : ℕ) (r : Option ℕ) → j < length ts → (get_or ts j (record { 0 = 0 })).0 ≡ 0x21 →
+pub met : (ts : List DrawTag) (j : ℕ) (r : Option ℕ) → j < length ts → (get_or ts j nop).0 ≡ 0x21 →
     r ≡ latest (open_after 0 [] (take j ts)) → (r ≡ met_by ts j) × MeetsByReduction ts j r
 met ts j r within ends is = (
   is ∙ ap (λ n. cond (eqb n 0x21) (latest (open_after 0 [] (take j ts))) None) (sym ends),
   λ i less begins end.
-      let both = meeting_at ts i j (record { 0 = 0 }) less (omega arith) begins in
+      let both = meeting_at ts i j nop less (omega arith) begins in
       (λ e. both.0 (sym is ∙ e), λ e. is ∙ both.1 e),
 )

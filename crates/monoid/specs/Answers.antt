@@ -13,6 +13,11 @@ number TooManySources = 12
 abbrev pub most : ℕ
 most = 1_048_576
 
+-- the check of a number of sources: more than the most are declined
+abbrev pub FewEnough : ℕ → Result (Unit {0}) CountError → Type 0
+FewEnough sources (Ok u) = sources ≤ most
+FewEnough sources (Err e) = (most < sources) × (e ≡ TooManySources)
+
 -- a combination: it is declined exactly where the combined meaning does not fit, and has that meaning otherwise
 abbrev pub Combined : {M A : Type 0} → (M → A) → (A → Type 0) → A → Result M CountError → Type 0
 Combined meaning Fits m (Ok x) = Fits m × (meaning x ≡ m)

@@ -1,12 +1,24 @@
 -- What path tags are and what they count. Assumes nothing.
-use Rattle.std.specs.Prelude.{ℕ, ◌+◌, ◌*◌, ◌/◌, ◌%◌, ◌^◌, ◌<◌, Bool, cond, not, List, [], ◌∷◌, ◌==◌, bit_or}
+use Rattle.std.specs.Prelude.{ℕ, ◌+◌, ◌*◌, ◌/◌, ◌%◌, ◌^◌, ◌<◌, Bool, cond, not, List, [], ◌∷◌, Some, None, Option, ◌==◌, bit_or}
 use Rattle.monoid.specs.Laws.{reduced}
 use Rattle.monoid.specs.declared.path.PathMonoid.{PathMonoid}
 use Rattle.monoid.specs.declared.path.PathTag.{PathTag}
+use Rattle.monoid.specs.declared.path.PathSegmentType.{PathSegmentType}
+use Rattle.monoid.specs.declared.path.PathSegmentType.TheVariants.{LineTo, QuadTo, CubicTo}
 
 -- the bit at place k
 abbrev pub bit : ℕ → PathTag → ℕ
 bit k t = t.0 / 2 ^ k % 2
+
+-- how many points a segment has past its first, and 0 for none
+abbrev pub points : PathSegmentType → ℕ
+points LineTo = 1
+points QuadTo = 2
+points CubicTo = 3
+
+abbrev pub points_of : Option PathSegmentType → ℕ
+points_of (Some kind) = points kind
+points_of None = 0
 
 -- the low two bits: how many points a segment has past its first, and 0 for a tag that is no segment
 abbrev pub segment_type : PathTag → ℕ

@@ -8,7 +8,7 @@ use crate::draw::DrawTag;
 use crate::{CountError, Monoid, sum};
 
 /// Pops `a`, then pushes `b`: the bicyclic semigroup.
-#[derive(Clone, Copy)]
+#[derive(Clone, Copy, Debug, PartialEq, Eq)]
 #[repr(C)]
 pub struct ClipBic {
     pub a: u32,
@@ -39,12 +39,10 @@ impl Monoid for ClipBic {
     }
 
     fn new(tag: DrawTag) -> ClipBic {
-        if tag.0 == DrawTag::BEGIN_CLIP.0 {
-            ClipBic { a: 0, b: 1 }
-        } else if tag.0 == DrawTag::END_CLIP.0 {
-            ClipBic { a: 1, b: 0 }
-        } else {
-            <ClipBic as Monoid>::identity()
+        match tag {
+            DrawTag::BEGIN_CLIP => ClipBic { a: 0, b: 1 },
+            DrawTag::END_CLIP => ClipBic { a: 1, b: 0 },
+            _ => ClipBic::identity(),
         }
     }
 
@@ -72,10 +70,11 @@ pub fn begin_met(tags: &[DrawTag], end: usize) -> Option<usize>
     ensures met { result ≡ met_by tags.now end }
     ensures reduces { MeetsByReduction tags.now end result }
 {
-    if end >= tags.len() || tags[end].0 != DrawTag::END_CLIP.0 {
-        return None;
+    if tags.get(end) == Some(&DrawTag::END_CLIP) {
+        latest_open(tags, end)
+    } else {
+        None
     }
-    latest_open(tags, end)
 }
 
 // The place of the latest begin that is open before place `end`.
@@ -85,14 +84,12 @@ fn latest_open(tags: &[DrawTag], end: usize) -> Option<usize>
 {
     let mut ended = 0usize;
     for i in (0..end).rev() {
-        let tag = tags[i].0;
-        if tag == DrawTag::BEGIN_CLIP.0 {
-            if ended == 0 {
-                return Some(i);
-            }
-            ended -= 1;
-        } else if tag == DrawTag::END_CLIP.0 {
-            ended += 1;
+        let tag = tags[i];
+        match tag {
+            DrawTag::BEGIN_CLIP if ended == 0 => return Some(i),
+            DrawTag::BEGIN_CLIP => ended -= 1,
+            DrawTag::END_CLIP => ended += 1,
+            _ => {}
         }
     }
     None

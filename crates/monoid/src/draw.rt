@@ -6,7 +6,7 @@ ghost use Rattle.monoid.specs.Kinds.{draw_laws, draw_fits};
 use crate::{CountError, Monoid, sum};
 
 /// One entry of the draw tag stream. Its bits say what it counts.
-#[derive(Clone, Copy)]
+#[derive(Clone, Copy, Debug, PartialEq, Eq)]
 #[repr(C)]
 pub struct DrawTag(pub u32);
 
@@ -31,7 +31,7 @@ impl DrawTag {
 }
 
 /// What some draw tags count.
-#[derive(Clone, Copy)]
+#[derive(Clone, Copy, Debug, PartialEq, Eq)]
 #[repr(C)]
 pub struct DrawMonoid {
     /// Paths.
@@ -74,7 +74,7 @@ impl Monoid for DrawMonoid {
 
     fn new(tag: DrawTag) -> DrawMonoid {
         DrawMonoid {
-            path_ix: (tag.0 != DrawTag::NOP.0) as u32,
+            path_ix: (tag != DrawTag::NOP) as u32,
             clip_ix: tag.0 & 1,
             scene_offset: (tag.0 >> 2) & 0x7,
             info_offset: tag.info_size(),

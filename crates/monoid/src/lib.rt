@@ -2,7 +2,7 @@
 #![tactic(auto)]
 
 ghost use Rattle.std.specs.Prelude.{◌≡◌, ◌+◌, ◌^◌, ◌<◌, ◌≤◌, List, length};
-ghost use Rattle.monoid.specs.Answers.{number, most, Combined};
+ghost use Rattle.monoid.specs.Answers.{number, most, FewEnough, Combined};
 ghost use Rattle.monoid.specs.Laws.{Laws, reduced};
 
 pub mod clip;
@@ -12,14 +12,14 @@ pub mod reduction;
 pub mod worked;
 
 /// Why a record or a table was not made.
-#[derive(Clone, Copy)]
+#[derive(Clone, Copy, Debug, PartialEq, Eq)]
 pub enum CountError {
     /// The combined counts do not fit the record.
-    DoesNotFit,
+    DoesNotFit = 10,
     /// The table has fewer rows than there are sources.
-    ShortTable,
+    ShortTable = 11,
     /// There are more than `MAX_SOURCES` sources.
-    TooManySources,
+    TooManySources = 12,
 }
 
 impl CountError {
@@ -27,16 +27,22 @@ impl CountError {
     pub fn number(self) -> u32
         ensures { result ≡ number self }
     {
-        match self {
-            CountError::DoesNotFit => 10,
-            CountError::ShortTable => 11,
-            CountError::TooManySources => 12,
-        }
+        self as u32
     }
 }
 
 /// The most sources that one reduction or table takes.
 pub const MAX_SOURCES: usize = 1_048_576;
+
+/// Refuses more than `MAX_SOURCES` sources.
+pub fn few_enough(sources: usize) -> Result<(), CountError>
+    ensures { FewEnough sources result }
+{
+    if sources > MAX_SOURCES {
+        return Err(CountError::TooManySources);
+    }
+    Ok(())
+}
 
 /// A kind of record that counts sources and can be combined.
 pub trait Monoid: Copy {

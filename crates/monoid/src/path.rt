@@ -2,19 +2,31 @@
 ghost use Rattle.std.specs.Prelude.{◌≡◌, ◌+◌, ◌<◌, ◌≤◌, length, IfOk};
 ghost use Rattle.std.specs.Option.{option_to_list};
 ghost use Rattle.monoid.specs.Packing.{word, packed, Packs};
-ghost use Rattle.monoid.specs.PathTags.{Counts, counts_of, none, plus, from_word, Small, segment_type, is_segment, is_f32, ends_subpath, ended};
+ghost use Rattle.monoid.specs.PathTags.{Counts, counts_of, none, plus, from_word, Small, points, points_of, segment_type, is_segment, is_f32, ends_subpath, ended};
 ghost use Rattle.monoid.specs.Kinds.{path_laws, path_fits};
 
 use crate::{CountError, Monoid, sum};
 use std::alloc::{AllocError, Global};
 
-/// How many points a segment has past the one it starts from: 0 for a tag that is no segment.
-#[derive(Clone, Copy)]
-#[repr(C)]
-pub struct PathSegmentType(pub u8);
+/// What a segment is: its number is how many points it has past the one it starts from.
+#[derive(Clone, Copy, Debug, PartialEq, Eq)]
+pub enum PathSegmentType {
+    LineTo = 1,
+    QuadTo = 2,
+    CubicTo = 3,
+}
+
+impl PathSegmentType {
+    /// How many points the segment has past the one it starts from.
+    pub fn points(self) -> usize
+        ensures { result ≡ points self }
+    {
+        self as usize
+    }
+}
 
 /// One entry of the path tag stream.
-#[derive(Clone, Copy)]
+#[derive(Clone, Copy, Debug, PartialEq, Eq)]
 #[repr(C)]
 pub struct PathTag(pub u8);
 
@@ -42,7 +54,7 @@ impl PathTag {
     pub fn is_path_segment(self) -> bool
         ensures { result ≡ is_segment self }
     {
-        self.path_segment_type().0 != 0
+        self.path_segment_type().is_some()
     }
 
     /// Whether the tag's coordinates are f32 numbers.
@@ -66,16 +78,21 @@ impl PathTag {
         self.0 |= PathTag::SUBPATH_END_BIT;
     }
 
-    /// The type of the segment.
-    pub fn path_segment_type(self) -> PathSegmentType
-        ensures { result.0 ≡ segment_type self }
+    /// The type of the segment: none for a tag that is no segment.
+    pub fn path_segment_type(self) -> Option<PathSegmentType>
+        ensures { points_of result ≡ segment_type self }
     {
-        PathSegmentType(self.0 & PathTag::SEGMENT_MASK)
+        match self.0 & PathTag::SEGMENT_MASK {
+            1 => Some(PathSegmentType::LineTo),
+            2 => Some(PathSegmentType::QuadTo),
+            3 => Some(PathSegmentType::CubicTo),
+            _ => None,
+        }
     }
 }
 
 /// What some path tags count: where the next one finds its transform, points, style and path.
-#[derive(Clone, Copy)]
+#[derive(Clone, Copy, Debug, PartialEq, Eq)]
 #[repr(C)]
 pub struct PathMonoid {
     /// Transforms.

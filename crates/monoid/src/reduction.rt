@@ -5,7 +5,7 @@ ghost use Rattle.monoid.specs.Answers.{Reduced, Tabled};
 ghost use Rattle.monoid.specs.Bracketings.{Bracketing, leaves, Gives, Agrees};
 ghost use Rattle.monoid.specs.Laws.{reduced};
 
-use crate::{MAX_SOURCES, Monoid};
+use crate::{Monoid, few_enough};
 
 /// The record of all sources, combined in their order. However they are bracketed, no combination is declined and the
 /// meaning is the same.
@@ -13,9 +13,7 @@ pub fn reduce<M: Monoid>(sources: &[M::SourceValue]) -> Result<M, crate::CountEr
     ensures reduces { Reduced M.meaning (reduced M.empty M.op M.source) sources.now result }
     ensures bracketings { IfOk result (λ x. (t : Bracketing M.SourceValue) → leaves t ≡ sources.now → (a : Result M CountError) → Gives M.meaning M.empty M.op M.source M.Fits t a → Agrees M.meaning x a) }
 {
-    if sources.len() > MAX_SOURCES {
-        return Err(crate::CountError::TooManySources);
-    }
+    few_enough(sources.len())?;
     let mut total = M::identity();
     for s in sources {
         total = total.combine_fitting(&M::new(*s));
@@ -30,9 +28,7 @@ pub fn prefixes<M: Monoid>(
 ) -> Result<(), crate::CountError>
     ensures { Tabled M.meaning (reduced M.empty M.op M.source) sources.now table.old table.new result }
 {
-    if sources.len() > MAX_SOURCES {
-        return Err(crate::CountError::TooManySources);
-    }
+    few_enough(sources.len())?;
     if table.len() < sources.len() {
         return Err(crate::CountError::ShortTable);
     }

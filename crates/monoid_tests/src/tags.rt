@@ -1,7 +1,7 @@
 // Tags, packing, and which begin an end meets.
 use monoid::clip::begin_met;
 use monoid::draw::DrawTag;
-use monoid::path::{PathTag, pack_tags};
+use monoid::path::{PathSegmentType, PathTag, pack_tags};
 use std::test::Fail;
 
 #[test]
@@ -10,7 +10,8 @@ fn path_tags(rt: HostRuntime) {
     assert!(rt; tag.is_path_segment());
     assert!(rt; tag.is_f32());
     assert!(rt; !tag.is_subpath_end());
-    assert_eq!(rt; tag.path_segment_type().0, 2);
+    assert_eq!(rt; tag.path_segment_type(), Some(PathSegmentType::QuadTo));
+    assert_eq!(rt; PathSegmentType::QuadTo.points(), 2);
     tag.set_subpath_end();
     tag.set_subpath_end();
     assert!(rt; tag.is_subpath_end());

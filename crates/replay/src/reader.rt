@@ -6,7 +6,7 @@ ghost use Rattle.replay.specs.Reading.{eight_at, segment-at, command_at, Command
 
 use monoid::draw::{DrawMonoid, DrawTag};
 use monoid::path::{PathMonoid, PathTag};
-use monoid::{CountError, MAX_SOURCES, Monoid};
+use monoid::{CountError, Monoid, few_enough};
 use std::array;
 use values::style::Style;
 use values::transform::Transform;
@@ -67,7 +67,7 @@ fn segment_at(
 ) -> ShownSegment
     ensures { result ≡ segment-at path_data.now transforms.now styles.now (counts_of before) tag }
 {
-    let n = 2 * (tag.path_segment_type().0 as usize + 1);
+    let n = 2 * (tag.path_segment_type().map_or(0, |kind| kind.points()) + 1);
     ShownSegment {
         tag,
         points: eight_at(path_data, before.pathseg_offset, n),
@@ -102,9 +102,7 @@ pub fn read_commands(
 ) -> Result<usize, CountError>
     ensures { Read (length draw_tags.now) table.old table.new (λ n. CommandsRead draw_tags.now draw_data.now table.old table.new n) result }
 {
-    if draw_tags.len() > MAX_SOURCES {
-        return Err(CountError::TooManySources);
-    }
+    few_enough(draw_tags.len())?;
     let mut before = DrawMonoid::identity();
     for (i, tag) in draw_tags.iter().enumerate() {
         let own = DrawMonoid::new(*tag);
@@ -125,9 +123,7 @@ pub fn read_segments(
 ) -> Result<usize, CountError>
     ensures { Read (length path_tags.now) table.old table.new (λ n. SegmentsRead path_tags.now path_data.now transforms.now styles.now table.old table.new n) result }
 {
-    if path_tags.len() > MAX_SOURCES {
-        return Err(CountError::TooManySources);
-    }
+    few_enough(path_tags.len())?;
     let mut before = PathMonoid::identity();
     for tag in path_tags {
         let shown = segment_at(path_data, transforms, styles, before, *tag);

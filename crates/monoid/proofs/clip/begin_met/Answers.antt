@@ -1,24 +1,22 @@
-use Rattle.std.proofs.Common.{◌≡◌, ℕ, None, ap, arith}
-use Rattle.std.proofs.lemmas.List.{get_or_past}
-use Rattle.monoid.specs.Meeting.{met_by, MeetsByReduction}
-use Rattle.monoid.proofs.Meetings.{met, not_met}
+use Rattle.std.proofs.Common.{◌≡◌, true, false, eqb, get_or, refl, ap, ◌∙◌, arith, rules, tests}
+use Rattle.monoid.proofs.Meetings.{met, not_met, is_end, end_within}
 use Rattle.monoid.proofs.clip.begin_met.Goals as goal
-use Rattle.monoid.proofs.clip.begin_met.Goals.{then-end-tags-via-then-end-tags, then-end-tags-via-else-end-tags+then-tags-end}
 
--- past the last tag there is no end
-no_end : (n : ℕ) → n ≡ 0 → n ≡ 0x21 → ⊥
-no_end n e h = omega arith
-
-pub returns-then-end-tags : goal.returns-then-end-tags
-returns-then-end-tags c =
+pub returns-then-eq : goal.returns-then-eq
+returns-then-eq c =
     let ts = c.args.tags.now in
-    let end = c.args.end in
-    let past : (None ≡ met_by ts end) × MeetsByReduction ts end None = elim c.then-end-tags.branch [
-      | then-end-tags-via-then-end-tags w ↦ not_met ts end (no_end _ (ap (λ t. t.0) (get_or_past ts end (record { 0 = 0 }) w.if-end-tags.true)))
-      | then-end-tags-via-else-end-tags+then-tags-end w ↦ not_met ts end w.if-tags-end.true
-    ] in record { met = past.0; reduces = past.1 }
+    let j = c.args.end in
+    let looked = c.get.ensures.lookup.4 (omega arith) (record { 0 = 0 }) in
+    let ends : true ≡ eqb (get_or ts j (record { 0 = 0 })).0 0x21 = c.if-eq.ensures ∙ is_end c.get.result _ _ (λ x. refl) ∙ ap (λ t. eqb t.0 0x21) looked in
+    let is : (get_or ts j (record { 0 = 0 })).0 ≡ 0x21 = search (rules, tests) in
+    let both = met ts j c.latest_open.result (end_within ts j is) is c.latest_open.ensures in
+    record { met = both.0; reduces = both.1 }
 
-pub returns : goal.returns
-returns c =
-    let both = met c.args.tags.now c.args.end c.latest_open.result c.if-end-tags.false c.if-tags-end.false c.latest_open.ensures in
+pub returns-else-eq : goal.returns-else-eq
+returns-else-eq c =
+    let ts = c.args.tags.now in
+    let j = c.args.end in
+    let looked = c.get.ensures.lookup.4 (omega arith) (record { 0 = 0 }) in
+    let ends : false ≡ eqb (get_or ts j (record { 0 = 0 })).0 0x21 = c.if-eq.ensures ∙ is_end c.get.result _ _ (λ x. refl) ∙ ap (λ t. eqb t.0 0x21) looked in
+    let both = not_met ts j (λ e. search (rules, tests)) in
     record { met = both.0; reduces = both.1 }

@@ -6,4 +6,4 @@ use Rattle.monoid.proofs.draw.DrawMonoidMonoid.new.Goals as goal
 pub returns : goal.returns
 returns c =
     let tag = c.args.tag.0 in
-    simp (counted, and_mask tag 1, and_mask (tag / 4) 3, c.info_size.ensures)
+    simp (c.ne.ensures, counted, and_mask tag 1, and_mask (tag / 4) 3, c.info_size.ensures)
