@@ -63,8 +63,8 @@ same_sign a b h l e m =
 no_size : (x : Float) (s : Bool) (n : ℕ) → Is x s n → same_number x (of_bits binary32 0) ≡ false → n ≡ 0 → ⊥
 no_size x s n i z e = apart (sym z ∙ c.same ∙ ap (λ (q : ℕ). level s q false c.b) left ∙ ap (λ (q : ℕ). level s 0 false q) right ∙ none s)
   where
-    c : Compared x (of_bits binary32 0) s false n 0
-    c = compared x (of_bits binary32 0) s false n 0 i zero_is
+    c : Compared (2 ^ 149) x (of_bits binary32 0) s false n 0
+    c = compared (2 ^ 149) x (of_bits binary32 0) s false n 0 i zero_is
 
     left : c.a ≡ 0
     left = let h : n * c.c ≡ 0 * c.c = ap (λ (q : ℕ). q * c.c) e in omega (arith, c.left)
@@ -98,8 +98,8 @@ one_pattern x y fx fy tx ty z e = same_sign (to_bits binary32 x) (to_bits binary
     b : UnitOf y
     b = unit_of y fy ty
 
-    c : Compared x y s t n k
-    c = compared x y s t n k a.is b.is
+    c : Compared (2 ^ 149) x y s t n k
+    c = compared (2 ^ 149) x y s t n k a.is b.is
 
     both : (c.a ≡ c.b) × ((s ≡ t) ⊎ (c.a ≡ 0))
     both = agree s t c.a c.b (sym c.same ∙ e)

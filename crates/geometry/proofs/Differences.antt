@@ -1,15 +1,16 @@
 -- Differences of finite numbers grow with the distance of their places on a line.
-use Rattle.std.proofs.Common.{◌≡◌, ℕ, zero, suc, ◌+◌, ◌-◌, ◌*◌, ◌%◌, ◌^◌, ◌<◌, ◌≤◌, Bool, true, false, cond, ◌&&◌, ◌||◌, T, eqb, ltb, leb, ◌⊎◌, sym, refl, ap, ◌∙◌, subst, inl, inr, mul-le-mul_right, eq-or-lt_of_le, mul-lt-mul_of_pos_right, arith, pow_pos, rules}
+use Rattle.std.proofs.Common.{◌≡◌, ℕ, zero, suc, ◌+◌, ◌-◌, ◌*◌, ◌^◌, ◌<◌, ◌≤◌, Bool, true, false, cond, ◌&&◌, ◌||◌, T, eqb, ltb, ◌⊎◌, sym, refl, ap, ◌∙◌, subst, inl, inr, mul-le-mul_right, mul_assoc, mul_comm, mul_left_comm, mul_right_comm, mul-pos, eq-or-lt_of_le, mul-lt-mul_of_pos_right, arith, lit<, rules}
 use lib.Count.{count_trailing_zeros}
-use lib.Ieee.{Float, inf, binary32, span, climb, size, odd, units, round, neg, sub, lt, le, fits, of_fields, of_bits, to_bits, below, level}
-use lib.Ieee.Fits.{round_is}
+use lib.Ieee.{Float, nan, inf, fin, binary32, up, down, span, climb, size, odd, units, round, neg, sub, lt, le, of_fields, of_bits, below, level}
+use lib.Ieee.Exact.{HasValue}
+use lib.Ieee.Fits.{round_is, down_pos}
 use lib.Ieee.Order.{round_mono}
+use lib.Ieee.Scale.{round_same}
 use Rattle.std.specs.Float.Order.{lt_of_lt_of_le}
 use Rattle.std.specs.Float.{float_is_finite, float_with_sign}
-use Rattle.math.specs.Sizes.{single_size}
 use Rattle.math.proofs.Sizes.{two_ways}
 use Rattle.geometry.specs.Tangents.{epsilon, apart}
-use Rattle.geometry.proofs.Units.{mostU, Is, neg_is, sub_is, add_same, add_more, add-less, add_even, Compared, compared, UnitOf, unit_of}
+use Rattle.geometry.proofs.Units.{neg_is, sub_is, add_same, add_more, add-less, add_even, Compared, compared}
 
 -- ---- rounding does not look at the sign
 
@@ -32,91 +33,83 @@ round_size s n c = ap (float_with_sign false) (round_is binary32 s n c) ∙ unit
 
 -- ---- finite numbers by their place on a line
 
-abbrev middle : ℕ
-middle = 2 ^ 278
+-- in units of 1 / d about the place m
+abbrev place : ℕ → Bool → ℕ → ℕ
+place m false n = m + n
+place m true n = m - n
 
-abbrev place : Bool → ℕ → ℕ
-place false n = middle + n
-place true n = middle - n
-
-record At (x : Float) (p : ℕ) : Type 0 where
+record At (d m : ℕ) (x : Float) (p : ℕ) : Type 0 where
   sign : Bool
   units_is : ℕ
-  is : Is x sign units_is
-  bound : units_is ≤ mostU
-  there : p ≡ place sign units_is
-
-record Placed (x : Float) : Type 0 where
-  p : ℕ
-  at : At x p
-
-placed : (x : Float) → T (fits binary32 x) → T (float_is_finite x) → Placed x
-placed x f t =
-    let u : UnitOf x = unit_of x f t in
-    record {
-      p = place (leb 0x80000000 (to_bits binary32 x)) (single_size (to_bits binary32 x % 0x80000000));
-      at = record { sign = leb 0x80000000 (to_bits binary32 x); units_is = single_size (to_bits binary32 x % 0x80000000); is = u.is; bound = u.bound; there = refl };
-    }
+  is : HasValue x sign units_is d
+  bound : units_is ≤ m
+  there : p ≡ place m sign units_is
 
 -- the larger less the smaller
-above_by : (x y : Float) (s t : Bool) (n k : ℕ) → Is x s n → Is y t k → n ≤ mostU → k ≤ mostU → place t k < place s n → sub binary32 x y ≡ round binary32 false (place s n - place t k) (2 ^ 149)
-above_by x y false false n k a b h l o =
-    let m : k < n = omega arith in
-    let d : n - k ≡ place false n - place false k = omega arith in
-    sub_is x y ∙ add-less x (neg y) false n k a (neg_is y false k b) m ∙ ap (λ (z : ℕ). round binary32 false z (2 ^ 149)) d
-above_by x y false true n k a b h l o =
-    let d : n + k ≡ place false n - place true k = omega arith in
-    sub_is x y ∙ add_same x (neg y) false n k a (neg_is y true k b) ∙ ap (λ (z : ℕ). round binary32 false z (2 ^ 149)) d
-above_by x y true false n k a b h l o = absurd (omega arith)
-above_by x y true true n k a b h l o =
-    let m : n < k = omega arith in
-    let d : k - n ≡ place true n - place true k = omega arith in
-    sub_is x y ∙ add_more x (neg y) true n k a (neg_is y true k b) m ∙ ap (λ (z : ℕ). round binary32 false z (2 ^ 149)) d
+above_by : (d m : ℕ) → 0 < d → (x y : Float) (s t : Bool) (n k : ℕ) → HasValue x s n d → HasValue y t k d → n ≤ m → k ≤ m → place m t k < place m s n → sub binary32 x y ≡ round binary32 false (place m s n - place m t k) d
+above_by d m u x y false false n k a b h l o =
+    let g : k < n = omega arith in
+    let e : n - k ≡ place m false n - place m false k = omega arith in
+    sub_is x y ∙ add-less d u x (neg y) false n k a (neg_is d y false k b) g ∙ ap (λ (z : ℕ). round binary32 false z d) e
+above_by d m u x y false true n k a b h l o =
+    let e : n + k ≡ place m false n - place m true k = omega arith in
+    sub_is x y ∙ add_same d u x (neg y) false n k a (neg_is d y true k b) ∙ ap (λ (z : ℕ). round binary32 false z d) e
+above_by d m u x y true false n k a b h l o = absurd (omega arith)
+above_by d m u x y true true n k a b h l o =
+    let g : n < k = omega arith in
+    let e : k - n ≡ place m true n - place m true k = omega arith in
+    sub_is x y ∙ add_more d u x (neg y) true n k a (neg_is d y true k b) g ∙ ap (λ (z : ℕ). round binary32 false z d) e
 
 -- the smaller less the larger
-below_by : (x y : Float) (s t : Bool) (n k : ℕ) → Is x s n → Is y t k → n ≤ mostU → k ≤ mostU → place s n < place t k → sub binary32 x y ≡ round binary32 true (place t k - place s n) (2 ^ 149)
-below_by x y false false n k a b h l o =
-    let m : n < k = omega arith in
-    let d : k - n ≡ place false k - place false n = omega arith in
-    sub_is x y ∙ add_more x (neg y) false n k a (neg_is y false k b) m ∙ ap (λ (z : ℕ). round binary32 true z (2 ^ 149)) d
-below_by x y false true n k a b h l o = absurd (omega arith)
-below_by x y true false n k a b h l o =
-    let d : n + k ≡ place false k - place true n = omega arith in
-    sub_is x y ∙ add_same x (neg y) true n k a (neg_is y false k b) ∙ ap (λ (z : ℕ). round binary32 true z (2 ^ 149)) d
-below_by x y true true n k a b h l o =
-    let m : k < n = omega arith in
-    let d : n - k ≡ place true k - place true n = omega arith in
-    sub_is x y ∙ add-less x (neg y) true n k a (neg_is y true k b) m ∙ ap (λ (z : ℕ). round binary32 true z (2 ^ 149)) d
+below_by : (d m : ℕ) → 0 < d → (x y : Float) (s t : Bool) (n k : ℕ) → HasValue x s n d → HasValue y t k d → n ≤ m → k ≤ m → place m s n < place m t k → sub binary32 x y ≡ round binary32 true (place m t k - place m s n) d
+below_by d m u x y false false n k a b h l o =
+    let g : n < k = omega arith in
+    let e : k - n ≡ place m false k - place m false n = omega arith in
+    sub_is x y ∙ add_more d u x (neg y) false n k a (neg_is d y false k b) g ∙ ap (λ (z : ℕ). round binary32 true z d) e
+below_by d m u x y false true n k a b h l o = absurd (omega arith)
+below_by d m u x y true false n k a b h l o =
+    let e : n + k ≡ place m false k - place m true n = omega arith in
+    sub_is x y ∙ add_same d u x (neg y) true n k a (neg_is d y false k b) ∙ ap (λ (z : ℕ). round binary32 true z d) e
+below_by d m u x y true true n k a b h l o =
+    let g : k < n = omega arith in
+    let e : n - k ≡ place m true k - place m true n = omega arith in
+    sub_is x y ∙ add-less d u x (neg y) true n k a (neg_is d y true k b) g ∙ ap (λ (z : ℕ). round binary32 true z d) e
 
 -- of one place: a zero
-record Zero (z : Float) : Type 0 where
+record Zero (d : ℕ) (z : Float) : Type 0 where
   sign : Bool
-  is : z ≡ round binary32 sign 0 (2 ^ 149)
+  is : z ≡ round binary32 sign 0 d
 
-level_by : (x y : Float) (s t : Bool) (n k : ℕ) → Is x s n → Is y t k → n ≤ mostU → k ≤ mostU → place s n ≡ place t k → Zero (sub binary32 x y)
-level_by x y false false n k a b h l o =
-    let m : n ≡ k = omega arith in
-    record { sign = false; is = sub_is x y ∙ add_even x (neg y) false n k a (neg_is y false k b) m }
-level_by x y false true n k a b h l o =
-    let m : n + k ≡ 0 = omega arith in
-    record { sign = false; is = sub_is x y ∙ add_same x (neg y) false n k a (neg_is y true k b) ∙ ap (λ (z : ℕ). round binary32 false z (2 ^ 149)) m }
-level_by x y true false n k a b h l o =
-    let m : n + k ≡ 0 = omega arith in
-    record { sign = true; is = sub_is x y ∙ add_same x (neg y) true n k a (neg_is y false k b) ∙ ap (λ (z : ℕ). round binary32 true z (2 ^ 149)) m }
-level_by x y true true n k a b h l o =
-    let m : n ≡ k = omega arith in
-    record { sign = false; is = sub_is x y ∙ add_even x (neg y) true n k a (neg_is y true k b) m }
+level_by : (d m : ℕ) → 0 < d → (x y : Float) (s t : Bool) (n k : ℕ) → HasValue x s n d → HasValue y t k d → n ≤ m → k ≤ m → place m s n ≡ place m t k → Zero d (sub binary32 x y)
+level_by d m u x y false false n k a b h l o =
+    let g : n ≡ k = omega arith in
+    record { sign = false; is = sub_is x y ∙ add_even d u x (neg y) false n k a (neg_is d y false k b) g }
+level_by d m u x y false true n k a b h l o =
+    let g : n + k ≡ 0 = omega arith in
+    record { sign = false; is = sub_is x y ∙ add_same d u x (neg y) false n k a (neg_is d y true k b) ∙ ap (λ (z : ℕ). round binary32 false z d) g }
+level_by d m u x y true false n k a b h l o =
+    let g : n + k ≡ 0 = omega arith in
+    record { sign = true; is = sub_is x y ∙ add_same d u x (neg y) true n k a (neg_is d y false k b) ∙ ap (λ (z : ℕ). round binary32 true z d) g }
+level_by d m u x y true true n k a b h l o =
+    let g : n ≡ k = omega arith in
+    record { sign = false; is = sub_is x y ∙ add_even d u x (neg y) true n k a (neg_is d y true k b) g }
 
-no_zero : T (lt epsilon (round binary32 false 0 (2 ^ 149))) → ⊥
+zero_within : T (lt epsilon (round binary32 false 0 1)) → ⊥
 unfolding count_trailing_zeros span climb size odd units round lt of_fields of_bits
-no_zero t = t
+zero_within t = t
+
+no_zero : (d : ℕ) → 0 < d → T (lt epsilon (round binary32 false 0 d)) → ⊥
+no_zero d u t = zero_within (subst (λ (z : Float). T (lt epsilon z)) (round_same binary32 false 0 d 0 1 u (lit< tt) (omega arith)) t)
 
 -- ---- the order of places
 
-scaled_le : (a b c n k : ℕ) → 0 < c → a * 2 ^ 149 ≡ n * c → b * 2 ^ 149 ≡ k * c → a ≤ b → n ≤ k
-scaled_le a b c n k p x y h =
+scaled_le : (d a b c n k : ℕ) → 0 < c → a * d ≡ n * c → b * d ≡ k * c → a ≤ b → n ≤ k
+scaled_le d a b c n k p x y h =
     elim (two_ways k n) [
-      | inl g ↦ let m : k * c < n * c = mul-lt-mul_of_pos_right g p in absurd (omega arith)
+      | inl g ↦
+          let i : k * c < n * c = mul-lt-mul_of_pos_right g p in
+          let j : a * d ≤ b * d = mul-le-mul_right d h in
+          absurd (omega arith)
       | inr g ↦ g
     ]
 
@@ -129,123 +122,184 @@ down_to a b r t = search rules
 both_zero : (a b : ℕ) → T (eqb a b && eqb a 0) → (a ≤ 0) × (b ≤ 0)
 both_zero a b t = search rules
 
-ordered : (s t : Bool) (a b c n k : ℕ) → 0 < c → a * 2 ^ 149 ≡ n * c → b * 2 ^ 149 ≡ k * c → n ≤ mostU → k ≤ mostU → T (below s a t b || level s a t b) → place s n ≤ place t k
-ordered false false a b c n k p x y h l o = let m : n ≤ k = scaled_le a b c n k p x y (up_to a b _ o) in omega arith
-ordered false true a b c n k p x y h l o =
+ordered : (d m : ℕ) (s t : Bool) (a b c n k : ℕ) → 0 < c → a * d ≡ n * c → b * d ≡ k * c → n ≤ m → k ≤ m → T (below s a t b || level s a t b) → place m s n ≤ place m t k
+ordered d m false false a b c n k p x y h l o =
+    let g : n ≤ k = scaled_le d a b c n k p x y (up_to a b _ o) in omega arith
+ordered d m false true a b c n k p x y h l o =
     let z : (a ≤ 0) × (b ≤ 0) = both_zero a b o in
-    let u : n ≤ 0 = scaled_le a 0 c n 0 p x (omega arith) z.0 in
-    let v : k ≤ 0 = scaled_le b 0 c k 0 p y (omega arith) z.1 in
+    let i : n ≤ 0 = scaled_le d a 0 c n 0 p x (omega arith) z.0 in
+    let j : k ≤ 0 = scaled_le d b 0 c k 0 p y (omega arith) z.1 in
     omega arith
-ordered true false a b c n k p x y h l o = omega arith
-ordered true true a b c n k p x y h l o = let m : k ≤ n = scaled_le b a c k n p y x (down_to a b _ o) in omega arith
+ordered d m true false a b c n k p x y h l o = omega arith
+ordered d m true true a b c n k p x y h l o =
+    let g : k ≤ n = scaled_le d b a c k n p y x (down_to a b _ o) in omega arith
 
-in_order : (x y : Float) (s t : Bool) (n k : ℕ) → Is x s n → Is y t k → n ≤ mostU → k ≤ mostU → T (le x y) → place s n ≤ place t k
+in_order : (d m : ℕ) (x y : Float) (s t : Bool) (n k : ℕ) → HasValue x s n d → HasValue y t k d → n ≤ m → k ≤ m → T (le x y) → place m s n ≤ place m t k
 unfolding le
-in_order x y s t n k a b h l o =
-    let c : Compared x y s t n k = compared x y s t n k a b in
-    ordered s t c.a c.b c.c n k c.above c.left c.right h l
+in_order d m x y s t n k a b h l o =
+    let c : Compared d x y s t n k = compared d x y s t n k a b in
+    ordered d m s t c.a c.b c.c n k c.above c.left c.right h l
     (subst (λ (z : Bool). T (z || level s c.a t c.b)) c.less (subst (λ (z : Bool). T (lt x y || z)) c.same o))
 
-rises : (x y : Float) (p q : ℕ) → At x p → At y q → T (le x y) → p ≤ q
-rises x y p q a b h =
-    let i : place a.sign a.units_is ≤ place b.sign b.units_is = in_order x y a.sign b.sign a.units_is b.units_is a.is b.is a.bound b.bound h in
-    subst (λ (z : ℕ). z ≤ q) (sym a.there) (subst (λ (z : ℕ). place a.sign a.units_is ≤ z) (sym b.there) i)
+rises : (d m : ℕ) (x y : Float) (p q : ℕ) → At d m x p → At d m y q → T (le x y) → p ≤ q
+rises d m x y p q a b h =
+    let i : place m a.sign a.units_is ≤ place m b.sign b.units_is = in_order d m x y a.sign b.sign a.units_is b.units_is a.is b.is a.bound b.bound h in
+    subst (λ (z : ℕ). z ≤ q) (sym a.there) (subst (λ (z : ℕ). place m a.sign a.units_is ≤ z) (sym b.there) i)
 
-over : (x y : Float) (p q : ℕ) → At x p → At y q → q < p → sub binary32 x y ≡ round binary32 false (p - q) (2 ^ 149)
-over x y p q a b h =
-    let i : place b.sign b.units_is < place a.sign a.units_is = subst (λ (z : ℕ). z < place a.sign a.units_is) b.there (subst (λ (z : ℕ). q < z) a.there h) in
-    above_by x y a.sign b.sign a.units_is b.units_is a.is b.is a.bound b.bound i
-    ∙ ap (λ (z : ℕ). round binary32 false (z - place b.sign b.units_is) (2 ^ 149)) (sym a.there)
-    ∙ ap (λ (z : ℕ). round binary32 false (p - z) (2 ^ 149)) (sym b.there)
+over : (d m : ℕ) → 0 < d → (x y : Float) (p q : ℕ) → At d m x p → At d m y q → q < p → sub binary32 x y ≡ round binary32 false (p - q) d
+over d m u x y p q a b h =
+    let i : place m b.sign b.units_is < place m a.sign a.units_is = subst (λ (z : ℕ). z < place m a.sign a.units_is) b.there (subst (λ (z : ℕ). q < z) a.there h) in
+    above_by d m u x y a.sign b.sign a.units_is b.units_is a.is b.is a.bound b.bound i
+    ∙ ap (λ (z : ℕ). round binary32 false (z - place m b.sign b.units_is) d) (sym a.there)
+    ∙ ap (λ (z : ℕ). round binary32 false (p - z) d) (sym b.there)
 
-under : (x y : Float) (p q : ℕ) → At x p → At y q → p < q → sub binary32 x y ≡ round binary32 true (q - p) (2 ^ 149)
-under x y p q a b h =
-    let i : place a.sign a.units_is < place b.sign b.units_is = subst (λ (z : ℕ). z < place b.sign b.units_is) a.there (subst (λ (z : ℕ). p < z) b.there h) in
-    below_by x y a.sign b.sign a.units_is b.units_is a.is b.is a.bound b.bound i
-    ∙ ap (λ (z : ℕ). round binary32 true (z - place a.sign a.units_is) (2 ^ 149)) (sym b.there)
-    ∙ ap (λ (z : ℕ). round binary32 true (q - z) (2 ^ 149)) (sym a.there)
+under : (d m : ℕ) → 0 < d → (x y : Float) (p q : ℕ) → At d m x p → At d m y q → p < q → sub binary32 x y ≡ round binary32 true (q - p) d
+under d m u x y p q a b h =
+    let i : place m a.sign a.units_is < place m b.sign b.units_is = subst (λ (z : ℕ). z < place m b.sign b.units_is) a.there (subst (λ (z : ℕ). p < z) b.there h) in
+    below_by d m u x y a.sign b.sign a.units_is b.units_is a.is b.is a.bound b.bound i
+    ∙ ap (λ (z : ℕ). round binary32 true (z - place m a.sign a.units_is) d) (sym b.there)
+    ∙ ap (λ (z : ℕ). round binary32 true (q - z) d) (sym a.there)
 
-level_at : (x y : Float) (p q : ℕ) → At x p → At y q → p ≡ q → Zero (sub binary32 x y)
-level_at x y p q a b h =
-    level_by x y a.sign b.sign a.units_is b.units_is a.is b.is a.bound b.bound (sym a.there ∙ h ∙ b.there)
+level_at : (d m : ℕ) → 0 < d → (x y : Float) (p q : ℕ) → At d m x p → At d m y q → p ≡ q → Zero d (sub binary32 x y)
+level_at d m u x y p q a b h =
+    level_by d m u x y a.sign b.sign a.units_is b.units_is a.is b.is a.bound b.bound (sym a.there ∙ h ∙ b.there)
 
 -- how far apart two finite numbers that are far apart lie
-record Gap (p q : ℕ) : Type 0 where
+record Gap (d p q : ℕ) : Type 0 where
   size_is : ℕ
   some : 0 < size_is
-  beyond_epsilon : T (lt epsilon (round binary32 false size_is (2 ^ 149)))
+  beyond_epsilon : T (lt epsilon (round binary32 false size_is d))
   which : ((p ≡ q + size_is) ⊎ (q ≡ p + size_is))
 
-gap : (x y : Float) (p q : ℕ) → At x p → At y q → T (apart x y) → Gap p q
-gap x y p q a b h =
+gap : (d m : ℕ) → 0 < d → (x y : Float) (p q : ℕ) → At d m x p → At d m y q → T (apart x y) → Gap d p q
+gap d m u x y p q a b h =
     elim (two_ways p q) [
       | inl o ↦
-          let e : float_with_sign false (sub binary32 x y) ≡ round binary32 false (q - p) (2 ^ 149) = ap (float_with_sign false) (under x y p q a b o) ∙ round_size true (q - p) (2 ^ 149) in
+          let e : float_with_sign false (sub binary32 x y) ≡ round binary32 false (q - p) d = ap (float_with_sign false) (under d m u x y p q a b o) ∙ round_size true (q - p) d in
           record { size_is = q - p; some = omega arith; beyond_epsilon = subst (λ (z : Float). T (lt epsilon z)) e h; which = inr (omega arith) }
       | inr o ↦
           elim (eq-or-lt_of_le o) [
             | inl i ↦
-                let z : Zero (sub binary32 x y) = level_at x y p q a b (sym i) in
-                let e : float_with_sign false (sub binary32 x y) ≡ round binary32 false 0 (2 ^ 149) = ap (float_with_sign false) z.is ∙ round_size z.sign 0 (2 ^ 149) in
-                absurd (no_zero (subst (λ (v : Float). T (lt epsilon v)) e h))
+                let z : Zero d (sub binary32 x y) = level_at d m u x y p q a b (sym i) in
+                let e : float_with_sign false (sub binary32 x y) ≡ round binary32 false 0 d = ap (float_with_sign false) z.is ∙ round_size z.sign 0 d in
+                absurd (no_zero d u (subst (λ (v : Float). T (lt epsilon v)) e h))
             | inr i ↦
-                let e : float_with_sign false (sub binary32 x y) ≡ round binary32 false (p - q) (2 ^ 149) = ap (float_with_sign false) (over x y p q a b i) ∙ round_size false (p - q) (2 ^ 149) in
+                let e : float_with_sign false (sub binary32 x y) ≡ round binary32 false (p - q) d = ap (float_with_sign false) (over d m u x y p q a b i) ∙ round_size false (p - q) d in
                 record { size_is = p - q; some = omega arith; beyond_epsilon = subst (λ (z : Float). T (lt epsilon z)) e h; which = inl (omega arith) }
           ]
     ]
 
-wider : (g s : Float) (p q n : ℕ) → At g p → At s q → 0 < n → q + n ≤ p → T (lt epsilon (round binary32 false n (2 ^ 149))) → T (lt epsilon (sub binary32 g s))
-wider g s p q n a b o h t =
+wider : (d m : ℕ) → 0 < d → (g s : Float) (p q n : ℕ) → At d m g p → At d m s q → 0 < n → q + n ≤ p → T (lt epsilon (round binary32 false n d)) → T (lt epsilon (sub binary32 g s))
+wider d m u g s p q n a b o h t =
     let l : q < p = omega arith in
-    let m : n ≤ p - q = omega arith in
-    subst (λ (z : Float). T (lt epsilon z)) (sym (over g s p q a b l))
-    (lt_of_lt_of_le epsilon (round binary32 false n (2 ^ 149)) (round binary32 false (p - q) (2 ^ 149)) t (round_mono binary32 n (2 ^ 149) (p - q) (2 ^ 149) (pow_pos 149) (pow_pos 149) (mul-le-mul_right (2 ^ 149) m)))
+    let i : n ≤ p - q = omega arith in
+    subst (λ (z : Float). T (lt epsilon z)) (sym (over d m u g s p q a b l))
+    (lt_of_lt_of_le epsilon (round binary32 false n d) (round binary32 false (p - q) d) t (round_mono binary32 n d (p - q) d u u (mul-le-mul_right d i)))
 
 -- what holds two numbers that are far apart is wide
-held : (x y g s : Float) (p q u v : ℕ) → At x p → At y q → At g u → At s v → p ≤ u → q ≤ u → v ≤ p → v ≤ q → T (apart x y) → T (lt epsilon (sub binary32 g s))
-held x y g s p q u v a b c d i j k l h =
-    let z : Gap p q = gap x y p q a b h in
-    wider g s u v z.size_is c d z.some (elim z.which [ inl e ↦ omega arith | inr e ↦ omega arith ]) z.beyond_epsilon
+held : (d m : ℕ) → 0 < d → (x y g s : Float) (p q i j : ℕ) → At d m x p → At d m y q → At d m g i → At d m s j → p ≤ i → q ≤ i → j ≤ p → j ≤ q → T (apart x y) → T (lt epsilon (sub binary32 g s))
+held d m u x y g s p q i j a b c e k l v w h =
+    let z : Gap d p q = gap d m u x y p q a b h in
+    wider d m u g s i j z.size_is c e z.some (elim z.which [ inl o ↦ omega arith | inr o ↦ omega arith ]) z.beyond_epsilon
 
-pub finite_stretch : (x y g s : Float) → T (fits binary32 x) → T (fits binary32 y) → T (fits binary32 g) → T (fits binary32 s)
-    → T (float_is_finite x) → T (float_is_finite y) → T (float_is_finite g) → T (float_is_finite s) → T (apart x y)
+-- ---- finite numbers over one denominator
+
+record Number (x : Float) : Type 0 where
+  sign : Bool
+  top : ℕ
+  bottom : ℕ
+  above : 0 < bottom
+  is : HasValue x sign top bottom
+
+number : (x : Float) → T (float_is_finite x) → Number x
+unfolding float_is_finite
+number nan t = absurd t
+number (inf s) t = absurd t
+number (fin s m e) t = record { sign = s; top = m * up e; bottom = down e; above = down_pos e; is = (refl, refl) }
+
+grown : (x : Float) (s : Bool) (n b k : ℕ) → HasValue x s n b → HasValue x s (n * k) (b * k)
+grown nan s n b k v = v
+grown (inf t) s n b k v = v
+grown (fin t m e) s n b k v = (v.0, sym (mul_assoc (m * up e) b k) ∙ ap (λ (z : ℕ). z * k) v.1 ∙ mul_right_comm n (down e) k)
+
+record Placed (d m : ℕ) (x : Float) : Type 0 where
+  p : ℕ
+  at : At d m x p
+
+placed : (d m : ℕ) (x : Float) (n : Number x) (k : ℕ) → d ≡ n.bottom * k → n.top * k ≤ m → Placed d m x
+placed d m x n k e h = record {
+  p = place m n.sign (n.top * k);
+  at = record {
+    sign = n.sign;
+    units_is = n.top * k;
+    is = subst (λ (z : ℕ). HasValue x n.sign (n.top * k) z) (sym e) (grown x n.sign n.top n.bottom k n.is);
+    bound = h;
+    there = refl;
+  };
+}
+
+pub finite_stretch : (x y g s : Float) → T (float_is_finite x) → T (float_is_finite y) → T (float_is_finite g) → T (float_is_finite s) → T (apart x y)
     → T (le x g) → T (le y g) → T (le s x) → T (le s y) → T (lt epsilon (sub binary32 g s))
-finite_stretch x y g s fx fy fg fs nx ny ng ns h i j k l =
-    let a : Placed x = placed x fx nx in
-    let b : Placed y = placed y fy ny in
-    let c : Placed g = placed g fg ng in
-    let d : Placed s = placed s fs ns in
-    held x y g s a.p b.p c.p d.p a.at b.at c.at d.at (rises x g _ _ a.at c.at i) (rises y g _ _ b.at c.at j) (rises s x _ _ d.at a.at k) (rises s y _ _ d.at b.at l) h
+finite_stretch x y g s nx ny ng ns = go (number x nx) (number y ny) (number g ng) (number s ns)
+  where
+    at : (d m : ℕ) → 0 < d → Placed d m x → Placed d m y → Placed d m g → Placed d m s → T (apart x y) → T (le x g) → T (le y g) → T (le s x) → T (le s y) → T (lt epsilon (sub binary32 g s))
+    at d m u a b c e h i j k l =
+        held d m u x y g s a.p b.p c.p e.p a.at b.at c.at e.at (rises d m x g _ _ a.at c.at i) (rises d m y g _ _ b.at c.at j) (rises d m s x _ _ e.at a.at k) (rises d m s y _ _ e.at b.at l) h
+
+    go : Number x → Number y → Number g → Number s → T (apart x y) → T (le x g) → T (le y g) → T (le s x) → T (le s y) → T (lt epsilon (sub binary32 g s))
+    go a b c e =
+        let k1 : ℕ = b.bottom * (c.bottom * e.bottom) in
+        let k2 : ℕ = a.bottom * (c.bottom * e.bottom) in
+        let k3 : ℕ = a.bottom * (b.bottom * e.bottom) in
+        let k4 : ℕ = a.bottom * (b.bottom * c.bottom) in
+        let d : ℕ = a.bottom * (b.bottom * (c.bottom * e.bottom)) in
+        let m : ℕ = a.top * k1 + b.top * k2 + c.top * k3 + e.top * k4 in
+        at d m (mul-pos a.above (mul-pos b.above (mul-pos c.above e.above)))
+        (placed d m x a k1 refl (omega arith))
+        (placed d m y b k2 (simp mul_left_comm) (omega arith))
+        (placed d m g c k3 (simp mul_left_comm) (omega arith))
+        (placed d m s e k4 (simp (mul_comm, mul_left_comm)) (omega arith))
 
 -- both ways round, a difference has one size
-pub either_way : (x y : Float) → T (fits binary32 x) → T (fits binary32 y) → T (float_is_finite x) → T (float_is_finite y) → float_with_sign false (sub binary32 x y) ≡ float_with_sign false (sub binary32 y x)
-either_way x y fx fy nx ny = go (placed x fx nx).p (placed y fy ny).p (placed x fx nx).at (placed y fy ny).at
+pub either_way : (x y : Float) → T (float_is_finite x) → T (float_is_finite y) → float_with_sign false (sub binary32 x y) ≡ float_with_sign false (sub binary32 y x)
+either_way x y nx ny = go (number x nx) (number y ny)
   where
-    go : (p q : ℕ) → At x p → At y q → float_with_sign false (sub binary32 x y) ≡ float_with_sign false (sub binary32 y x)
-    go p q a b =
+    at : (d m : ℕ) → 0 < d → (p q : ℕ) → At d m x p → At d m y q → float_with_sign false (sub binary32 x y) ≡ float_with_sign false (sub binary32 y x)
+    at d m u p q a b =
         elim (two_ways p q) [
           | inl o ↦
-              ap (float_with_sign false) (under x y p q a b o) ∙ round_size true (q - p) (2 ^ 149)
-              ∙ sym (round_size false (q - p) (2 ^ 149)) ∙ sym (ap (float_with_sign false) (over y x q p b a o))
+              ap (float_with_sign false) (under d m u x y p q a b o) ∙ round_size true (q - p) d
+              ∙ sym (round_size false (q - p) d) ∙ sym (ap (float_with_sign false) (over d m u y x q p b a o))
           | inr o ↦
               elim (eq-or-lt_of_le o) [
                 | inl i ↦
-                    let z : Zero (sub binary32 x y) = level_at x y p q a b (sym i) in
-                    let w : Zero (sub binary32 y x) = level_at y x q p b a i in
-                    ap (float_with_sign false) z.is ∙ round_size z.sign 0 (2 ^ 149)
-                    ∙ sym (round_size w.sign 0 (2 ^ 149)) ∙ sym (ap (float_with_sign false) w.is)
+                    let z : Zero d (sub binary32 x y) = level_at d m u x y p q a b (sym i) in
+                    let w : Zero d (sub binary32 y x) = level_at d m u y x q p b a i in
+                    ap (float_with_sign false) z.is ∙ round_size z.sign 0 d
+                    ∙ sym (round_size w.sign 0 d) ∙ sym (ap (float_with_sign false) w.is)
                 | inr i ↦
-                    ap (float_with_sign false) (over x y p q a b i) ∙ round_size false (p - q) (2 ^ 149)
-                    ∙ sym (round_size true (p - q) (2 ^ 149)) ∙ sym (ap (float_with_sign false) (under y x q p b a i))
+                    ap (float_with_sign false) (over d m u x y p q a b i) ∙ round_size false (p - q) d
+                    ∙ sym (round_size true (p - q) d) ∙ sym (ap (float_with_sign false) (under d m u y x q p b a i))
               ]
         ]
 
+    go : Number x → Number y → float_with_sign false (sub binary32 x y) ≡ float_with_sign false (sub binary32 y x)
+    go a b =
+        let d : ℕ = a.bottom * b.bottom in
+        let m : ℕ = a.top * b.bottom + b.top * a.bottom in
+        let p : Placed d m x = placed d m x a b.bottom refl (omega arith) in
+        let q : Placed d m y = placed d m y b a.bottom (mul_comm a.bottom b.bottom) (omega arith) in
+        at d m (mul-pos a.above b.above) p.p q.p p.at q.at
+
 -- a number less itself is not beyond epsilon
-pub no_distance : (x : Float) → T (fits binary32 x) → T (float_is_finite x) → T (apart x x) → ⊥
-no_distance x f n h = go (placed x f n).p (placed x f n).at
+pub no_distance : (x : Float) → T (float_is_finite x) → T (apart x x) → ⊥
+no_distance x n h = go (number x n)
   where
-    go : (p : ℕ) → At x p → ⊥
-    go p a =
-        let z : Zero (sub binary32 x x) = level_at x x p p a a refl in
-        let e : float_with_sign false (sub binary32 x x) ≡ round binary32 false 0 (2 ^ 149) = ap (float_with_sign false) z.is ∙ round_size z.sign 0 (2 ^ 149) in
-        no_zero (subst (λ (v : Float). T (lt epsilon v)) e h)
+    at : (d m : ℕ) → 0 < d → Placed d m x → ⊥
+    at d m u a =
+        let z : Zero d (sub binary32 x x) = level_at d m u x x a.p a.p a.at a.at refl in
+        let e : float_with_sign false (sub binary32 x x) ≡ round binary32 false 0 d = ap (float_with_sign false) z.is ∙ round_size z.sign 0 d in
+        no_zero d u (subst (λ (v : Float). T (lt epsilon v)) e h)
+
+    go : Number x → ⊥
+    go a = at (a.bottom * 1) (a.top * 1) (omega (arith, a.above)) (placed (a.bottom * 1) (a.top * 1) x a 1 refl (omega arith))

@@ -1,8 +1,9 @@
 -- A point that is far from the first makes a segment long, and for a line this is all.
-use Rattle.std.proofs.Common.{◌≡◌, Bool, true, false, cond, not, ◌||◌, T, ◌⊎◌, List, [], ◌∷◌, negsuc, sym, refl, ap, ◌∙◌, subst, inl, inr}
-use lib.Ieee.{Float, nan, inf, fin, binary32, neg, add, sub, lt, eq, le, is_nan, fits}
+use Rattle.std.proofs.Common.{◌≡◌, ℕ, zero, suc, ◌<◌, Bool, true, false, cond, not, ◌||◌, T, ◌⊎◌, List, [], ◌∷◌, length, map, get_or, negsuc, sym, refl, ap, ◌∙◌, subst, inl, inr, arith}
+use lib.Ieee.{Float, nan, inf, fin, binary32, neg, add, sub, lt, eq, le, is_nan}
 use lib.Ieee.Bits.{is_true}
-use Rattle.std.specs.Float.{float_is_finite, float_with_sign}
+use Rattle.std.specs.List.{fold}
+use Rattle.std.specs.Float.{float_is_finite, float_with_sign, float_min, float_max}
 use Rattle.geometry.specs.Tangents.{Coordinates, epsilon, apart, far}
 use Rattle.geometry.specs.Extents.{In, Extremes, greatest, smallest, wide, short, xs_of, ys_of}
 use Rattle.geometry.proofs.Epsilon.{epsilon-is}
@@ -63,7 +64,6 @@ record Held (x y g s : Float) : Type 0 where
   y_under : T (le y g)
   x_over : T (le s x)
   y_over : T (le s y)
-  fit : T (fits binary32 x) × T (fits binary32 y) × T (fits binary32 g) × T (fits binary32 s)
 
 nan_above : (x : Float) → T (le x nan) → ⊥
 unfolding le lt eq
@@ -94,21 +94,12 @@ stretch x y (fin r m e) nan h = absurd (nan_below x h.x_over)
 stretch x y (fin r m e) (inf false) h = absurd (not_over r m e (subst (λ (z : Float). T (le z (fin r m e))) (over_high x h.x_over) h.x_under))
 stretch x y (fin r m e) (inf true) h = infinity_exceeds
 stretch x y (fin r m e) (fin t n d) h =
-    finite_stretch x y (fin r m e) (fin t n d) h.fit.0 h.fit.1 h.fit.2 h.fit.3 (between x r t m n e d h.x_under h.x_over) (between y r t m n e d h.y_under h.y_over) tt tt h.apart_is h.x_under h.y_under h.x_over h.y_over
+    finite_stretch x y (fin r m e) (fin t n d) (between x r t m n e d h.x_under h.x_over) (between y r t m n e d h.y_under h.y_over) tt tt h.apart_is h.x_under h.y_under h.x_over h.y_over
 
 -- ---- over a list
 
-abbrev pub AllFit : List Float → Type 0
-AllFit [] = Unit {0}
-AllFit (x ∷ xs) = T (fits binary32 x) × AllFit xs
-
-member_fits : (x : Float) (xs : List Float) → AllFit xs → In x xs → T (fits binary32 x)
-member_fits x [] f i = absurd i
-member_fits x (y ∷ ys) f (inl e) = subst (λ (z : Float). T (fits binary32 z)) (sym e) f.0
-member_fits x (y ∷ ys) f (inr i) = member_fits x ys f.1 i
-
-wide_of : (m x : Float) (xs : List Float) → AllFit (m ∷ xs) → In x xs → T (apart x m) → T (wide m xs)
-wide_of m x xs f i h =
+wide_of : (m x : Float) (xs : List Float) → In x xs → T (apart x m) → T (wide m xs)
+wide_of m x xs i h =
     let e : Extremes m xs = extremes m xs in
     let n : T (not (is_nan x)) × T (not (is_nan m)) = numbers x m h in
     stretch x m (greatest m xs) (smallest m xs) record {
@@ -117,7 +108,6 @@ wide_of m x xs f i h =
       y_under = e.0.above m (inl refl) n.1;
       x_over = e.1.below x (inr i) n.0;
       y_over = e.1.below m (inl refl) n.1;
-      fit = (member_fits x xs f.1 i, f.0, member_fits (greatest m xs) (m ∷ xs) f e.0.one, member_fits (smallest m xs) (m ∷ xs) f e.1.one);
     }
 
 one_of : (a b : Bool) → (a || b) ≡ true → (a ≡ true) ⊎ (b ≡ true)
@@ -133,12 +123,23 @@ none_or false false (inr e) = e
 held_true : (b : Bool) → b ≡ true → T b
 held_true b e = subst T (sym e) tt
 
-pub long : (p q : Coordinates) (ps : List Coordinates) → AllFit (p.0 ∷ xs_of ps) → AllFit (p.1 ∷ ys_of ps) → In q.0 (xs_of ps) → In q.1 (ys_of ps) → far q p ≡ true → false ≡ short p ps
-long p q ps fx fy ix iy h =
+in_x : (ps : List Coordinates) (i : ℕ) (d : Coordinates) → i < length ps → In (get_or ps i d).0 (xs_of ps)
+in_x [] i d h = absurd (omega arith)
+in_x (p ∷ ps) zero d h = inl refl
+in_x (p ∷ ps) (suc i) d h = inr (in_x ps i d (omega arith))
+
+in_y : (ps : List Coordinates) (i : ℕ) (d : Coordinates) → i < length ps → In (get_or ps i d).1 (ys_of ps)
+in_y [] i d h = absurd (omega arith)
+in_y (p ∷ ps) zero d h = inl refl
+in_y (p ∷ ps) (suc i) d h = inr (in_y ps i d (omega arith))
+
+-- a far point makes it long
+pub long : (p : Coordinates) (ps : List Coordinates) (i : ℕ) (d : Coordinates) → i < length ps → far (get_or ps i d) p ≡ true → false ≡ short p ps
+long p ps i d l h =
     none_or (wide p.0 (xs_of ps)) (wide p.1 (ys_of ps))
-    (elim (one_of (apart q.0 p.0) (apart q.1 p.1) h) [
-      | inl e ↦ inl (is_true _ (wide_of p.0 q.0 (xs_of ps) fx ix (held_true _ e)))
-      | inr e ↦ inr (is_true _ (wide_of p.1 q.1 (ys_of ps) fy iy (held_true _ e)))
+    (elim (one_of (apart (get_or ps i d).0 p.0) (apart (get_or ps i d).1 p.1) h) [
+      | inl e ↦ inl (is_true _ (wide_of p.0 (get_or ps i d).0 (xs_of ps) (in_x ps i d l) (held_true _ e)))
+      | inr e ↦ inr (is_true _ (wide_of p.1 (get_or ps i d).1 (ys_of ps) (in_y ps i d l) (held_true _ e)))
     ])
 
 -- ---- a line
@@ -154,33 +155,33 @@ bare (fin true m e) h = absurd h
 sized : (z : Float) → T (lt epsilon z) → T (lt epsilon (float_with_sign false z))
 sized z h = subst (λ (e : Float). T (lt e (float_with_sign false z))) (sym epsilon-is) (bare z (subst (λ (e : Float). T (lt e z)) epsilon-is h))
 
-not_itself : (x : Float) → T (fits binary32 x) → T (lt epsilon (sub binary32 x x)) → ⊥
+not_itself : (x : Float) → T (lt epsilon (sub binary32 x x)) → ⊥
 unfolding float_is_finite is_nan
-not_itself nan f h = (numbers nan nan (sized _ h)).0
-not_itself (inf s) f h = same_infinity s (sized _ h)
-not_itself (fin s m e) f h = no_distance (fin s m e) f tt (sized _ h)
+not_itself nan h = (numbers nan nan (sized _ h)).0
+not_itself (inf s) h = same_infinity s (sized _ h)
+not_itself (fin s m e) h = no_distance (fin s m e) tt (sized _ h)
 
-turned : (x y : Float) → T (fits binary32 x) → T (fits binary32 y) → T (apart x y) → T (apart y x)
+turned : (x y : Float) → T (apart x y) → T (apart y x)
 unfolding float_is_finite is_nan sub add neg float_with_sign
-turned nan y f g h = absurd (numbers nan y h).0
-turned (inf s) nan f g h = absurd (numbers (inf s) nan h).1
-turned (inf true) (inf true) f g h = absurd (same_infinity true h)
-turned (inf true) (inf false) f g h = infinity_exceeds
-turned (inf false) (inf true) f g h = infinity_exceeds
-turned (inf false) (inf false) f g h = absurd (same_infinity false h)
-turned (inf s) (fin t n d) f g h = infinity_exceeds
-turned (fin s m e) nan f g h = absurd (numbers (fin s m e) nan h).1
-turned (fin s m e) (inf t) f g h = infinity_exceeds
-turned (fin s m e) (fin t n d) f g h = subst (λ (z : Float). T (lt epsilon z)) (either_way (fin s m e) (fin t n d) f g tt tt) h
+turned nan y h = absurd (numbers nan y h).0
+turned (inf s) nan h = absurd (numbers (inf s) nan h).1
+turned (inf true) (inf true) h = absurd (same_infinity true h)
+turned (inf true) (inf false) h = infinity_exceeds
+turned (inf false) (inf true) h = infinity_exceeds
+turned (inf false) (inf false) h = absurd (same_infinity false h)
+turned (inf s) (fin t n d) h = infinity_exceeds
+turned (fin s m e) nan h = absurd (numbers (fin s m e) nan h).1
+turned (fin s m e) (inf t) h = infinity_exceeds
+turned (fin s m e) (fin t n d) h = subst (λ (z : Float). T (lt epsilon z)) (either_way (fin s m e) (fin t n d) tt tt) h
 
-apart_of : (m x : Float) → T (fits binary32 m) → T (fits binary32 x) → T (wide m (x ∷ [])) → T (apart x m)
-apart_of m x f g h = go (le x m || is_nan x) (le m x || is_nan x) h
+apart_of : (m x : Float) → T (wide m (x ∷ [])) → T (apart x m)
+apart_of m x h = go (le x m || is_nan x) (le m x || is_nan x) h
   where
     go : (a b : Bool) → T (lt epsilon (sub binary32 (cond a m x) (cond b m x))) → T (apart x m)
-    go true true t = absurd (not_itself m f t)
-    go true false t = turned m x f g (sized _ t)
+    go true true t = absurd (not_itself m t)
+    go true false t = turned m x (sized _ t)
     go false true t = sized _ t
-    go false false t = absurd (not_itself x g t)
+    go false false t = absurd (not_itself x t)
 
 alike : (a b : Bool) → (T a → T b) → (T b → T a) → a ≡ b
 alike true true h k = refl
@@ -188,10 +189,37 @@ alike true false h k = absurd (h tt)
 alike false true h k = absurd (k tt)
 alike false false h k = refl
 
-in_one : (m x : Float) → T (fits binary32 m) → T (fits binary32 x) → apart x m ≡ wide m (x ∷ [])
-in_one m x f g = alike (apart x m) (wide m (x ∷ [])) (wide_of m x (x ∷ []) (f, (g, tt)) (inl refl)) (apart_of m x f g)
+in_one : (m x : Float) → apart x m ≡ wide m (x ∷ [])
+in_one m x = alike (apart x m) (wide m (x ∷ [])) (wide_of m x (x ∷ []) (inl refl)) (apart_of m x)
 
-pub by_its_ends : (p q : Coordinates) → T (fits binary32 p.0) → T (fits binary32 p.1) → T (fits binary32 q.0) → T (fits binary32 q.1) → not (far q p) ≡ short p (q ∷ [])
-by_its_ends p q a b c d =
-    ap (λ (z : Bool). not (z || apart q.1 p.1)) (in_one p.0 q.0 a c)
-    ∙ ap (λ (z : Bool). not (wide p.0 (q.0 ∷ []) || z)) (in_one p.1 q.1 b d)
+by_its_ends : (p q : Coordinates) → not (far q p) ≡ short p (q ∷ [])
+by_its_ends p q =
+    ap (λ (z : Bool). not (z || apart q.1 p.1)) (in_one p.0 q.0) ∙ ap (λ (z : Bool). not (wide p.0 (q.0 ∷ []) || z)) (in_one p.1 q.1)
+
+-- no point, and one that is not far
+pub alone : (p : Coordinates) (ps : List Coordinates) → length ps < 1 → true ≡ short p ps
+alone p [] l = neither (wide p.0 []) (wide p.1 []) (not_itself p.0) (not_itself p.1)
+  where
+    neither : (a b : Bool) → (T a → ⊥) → (T b → ⊥) → true ≡ not (a || b)
+    neither true b h k = absurd (h tt)
+    neither false true h k = absurd (k tt)
+    neither false false h k = refl
+alone p (q ∷ ps) l = absurd (omega arith)
+
+pub near : (p : Coordinates) (ps : List Coordinates) (i : ℕ) (d : Coordinates) → length ps ≡ 1 → i < length ps → far (get_or ps i d) p ≡ false → true ≡ short p ps
+near p [] i d l h e = absurd (omega arith)
+near p (q ∷ []) zero d l h e = ap not (sym e) ∙ by_its_ends p q
+near p (q ∷ []) (suc i) d l h e = absurd (omega arith)
+near p (q ∷ r ∷ ps) i d l h e = absurd (omega arith)
+
+-- ---- the extent in one pass
+
+pub xs_pass : {A : Type 0} (v : A → Coordinates) (s : Coordinates) (qs : List A)
+    → fold (λ (t : Coordinates) (q : A). (float_min t.0 (v q).0, float_max t.1 (v q).0)) s qs ≡ (smallest s.0 (xs_of (map v qs)), greatest s.1 (xs_of (map v qs)))
+xs_pass v s [] = refl
+xs_pass v s (q ∷ qs) = xs_pass v (float_min s.0 (v q).0, float_max s.1 (v q).0) qs
+
+pub ys_pass : {A : Type 0} (v : A → Coordinates) (s : Coordinates) (qs : List A)
+    → fold (λ (t : Coordinates) (q : A). (float_min t.0 (v q).1, float_max t.1 (v q).1)) s qs ≡ (smallest s.0 (ys_of (map v qs)), greatest s.1 (ys_of (map v qs)))
+ys_pass v s [] = refl
+ys_pass v s (q ∷ qs) = ys_pass v (float_min s.0 (v q).1, float_max s.1 (v q).1) qs

@@ -47,7 +47,7 @@ third-step y s k q h =
 
 same_finite : (p x : Float) (s : Bool) (n k : ℕ) → Is p s n → Is x s k → n + k ≤ mostU → T (float_is_finite (add binary32 p x))
 same_finite p x s n k a b h =
-    let r : Rounded (add binary32 p x) s (n + k) = rounded (add binary32 p x) s (n + k) (add_same p x s n k a b) h in
+    let r : Rounded (add binary32 p x) s (n + k) = rounded (add binary32 p x) s (n + k) (add_same (2 ^ 149) (pow_pos 149) p x s n k a b) h in
     finite_of (add binary32 p x) s r.size_is r.is
 
 opposite_finite : (p x : Float) (s : Bool) (n k : ℕ) → Is p s n → Is x (not s) k → n ≤ mostU → k ≤ mostU → T (float_is_finite (add binary32 p x))
@@ -55,16 +55,16 @@ opposite_finite p x s n k a b h l =
     elim (two_ways n k) [
       | inl o ↦
           let m : k - n ≤ mostU = omega arith in
-          let r : Rounded (add binary32 p x) (not s) (k - n) = rounded (add binary32 p x) (not s) (k - n) (add_more p x s n k a b o) m in
+          let r : Rounded (add binary32 p x) (not s) (k - n) = rounded (add binary32 p x) (not s) (k - n) (add_more (2 ^ 149) (pow_pos 149) p x s n k a b o) m in
           finite_of (add binary32 p x) (not s) r.size_is r.is
       | inr o ↦
           elim (eq-or-lt_of_le o) [
             | inl e ↦
-                let r : Rounded (add binary32 p x) false 0 = rounded (add binary32 p x) false 0 (add_even p x s n k a b (sym e)) zero-le in
+                let r : Rounded (add binary32 p x) false 0 = rounded (add binary32 p x) false 0 (add_even (2 ^ 149) (pow_pos 149) p x s n k a b (sym e)) zero-le in
                 finite_of (add binary32 p x) false r.size_is r.is
             | inr g ↦
                 let m : n - k ≤ mostU = omega arith in
-                let r : Rounded (add binary32 p x) s (n - k) = rounded (add binary32 p x) s (n - k) (add-less p x s n k a b g) m in
+                let r : Rounded (add binary32 p x) s (n - k) = rounded (add binary32 p x) s (n - k) (add-less (2 ^ 149) (pow_pos 149) p x s n k a b g) m in
                 finite_of (add binary32 p x) s r.size_is r.is
           ]
     ]
@@ -85,20 +85,20 @@ alike p q s n k a b h l =
     elim (two_ways n k) [
       | inl o ↦
           let m : k - n ≤ mostU = omega arith in
-          let d : Rounded (sub binary32 q p) s (k - n) = rounded (sub binary32 q p) s (k - n) (sub_is q p ∙ add-less q (neg p) s k n b (neg_is p s n a) o) m in
+          let d : Rounded (sub binary32 q p) s (k - n) = rounded (sub binary32 q p) s (k - n) (sub_is q p ∙ add-less (2 ^ 149) (pow_pos 149) q (neg p) s k n b (neg_is (2 ^ 149) p s n a) o) m in
           let w : d.size_is < 2 ^ 278 = omega (arith, d.bound) in
           let t : Thirded (third_of q p) s d.size_is = with_third p q s d.size_is d.is w in
           same_finite p (third_of q p) s n t.size_is a t.is (omega (arith, d.bound, t.bound))
       | inr o ↦
           elim (eq-or-lt_of_le o) [
             | inl e ↦
-                let d : Rounded (sub binary32 q p) false 0 = rounded (sub binary32 q p) false 0 (sub_is q p ∙ add_even q (neg p) s k n b (neg_is p s n a) e) zero-le in
+                let d : Rounded (sub binary32 q p) false 0 = rounded (sub binary32 q p) false 0 (sub_is q p ∙ add_even (2 ^ 149) (pow_pos 149) q (neg p) s k n b (neg_is (2 ^ 149) p s n a) e) zero-le in
                 let w : d.size_is < 2 ^ 278 = omega (arith, d.bound) in
                 let t : Thirded (third_of q p) false d.size_is = with_third p q false d.size_is d.is w in
                 by_sign p (third_of q p) s n t.size_is a t.is (omega (arith, d.bound, t.bound))
             | inr g ↦
                 let m : n - k ≤ mostU = omega arith in
-                let d : Rounded (sub binary32 q p) (not s) (n - k) = rounded (sub binary32 q p) (not s) (n - k) (sub_is q p ∙ add_more q (neg p) s k n b (neg_is p s n a) g) m in
+                let d : Rounded (sub binary32 q p) (not s) (n - k) = rounded (sub binary32 q p) (not s) (n - k) (sub_is q p ∙ add_more (2 ^ 149) (pow_pos 149) q (neg p) s k n b (neg_is (2 ^ 149) p s n a) g) m in
                 let w : d.size_is < 2 ^ 278 = omega (arith, d.bound) in
                 let t : Thirded (third_of q p) (not s) d.size_is = with_third p q (not s) d.size_is d.is w in
                 opposite_finite p (third_of q p) s n t.size_is a t.is h (omega (arith, d.bound, t.bound))
@@ -110,7 +110,7 @@ opposed p q s n k a b h l = go (float_is_infinite (sub binary32 q p)) refl
   where
     go : (i : Bool) → float_is_infinite (sub binary32 q p) ≡ i → T (float_is_finite (add binary32 p (third_of q p)))
     go false e =
-        let d : sub binary32 q p ≡ round binary32 (not s) (k + n) (2 ^ 149) = sub_is q p ∙ add_same q (neg p) (not s) k n b (neg_is p s n a) in
+        let d : sub binary32 q p ≡ round binary32 (not s) (k + n) (2 ^ 149) = sub_is q p ∙ add_same (2 ^ 149) (pow_pos 149) q (neg p) (not s) k n b (neg_is (2 ^ 149) p s n a) in
         let f : Is (round binary32 (not s) (k + n) (2 ^ 149)) (not s) (grid binary32 (k + n) (2 ^ 149)) × (grid binary32 (k + n) (2 ^ 149) < 2 ^ 277) = round_finite (not s) (k + n) (2 ^ 149) (subst (λ (z : Float). float_is_infinite z ≡ false) d e) in
         let w : grid binary32 (k + n) (2 ^ 149) < 2 ^ 278 = omega (arith, f.1) in
         let v : Is (sub binary32 q p) (not s) (grid binary32 (k + n) (2 ^ 149)) = subst (λ (z : Float). Is z (not s) (grid binary32 (k + n) (2 ^ 149))) (sym d) f.0 in
@@ -121,7 +121,7 @@ opposed p q s n k a b h l = go (float_is_infinite (sub binary32 q p)) refl
         let y : Thirded (mul binary32 third p) s n = third-step p s n a (omega arith) in
         let c : third_of q p ≡ sub binary32 (mul binary32 third q) (mul binary32 third p) = ap (λ (z : Bool). cond z (sub binary32 (mul binary32 third q) (mul binary32 third p)) (mul binary32 third (sub binary32 q p))) e in
         let m : x.size_is + y.size_is ≤ mostU = omega (arith, x.bound, y.bound) in
-        let d : Rounded (third_of q p) (not s) (x.size_is + y.size_is) = rounded (third_of q p) (not s) (x.size_is + y.size_is) (c ∙ sub_is (mul binary32 third q) (mul binary32 third p) ∙ add_same (mul binary32 third q) (neg (mul binary32 third p)) (not s) x.size_is y.size_is x.is (neg_is (mul binary32 third p) s y.size_is y.is)) m in
+        let d : Rounded (third_of q p) (not s) (x.size_is + y.size_is) = rounded (third_of q p) (not s) (x.size_is + y.size_is) (c ∙ sub_is (mul binary32 third q) (mul binary32 third p) ∙ add_same (2 ^ 149) (pow_pos 149) (mul binary32 third q) (neg (mul binary32 third p)) (not s) x.size_is y.size_is x.is (neg_is (2 ^ 149) (mul binary32 third p) s y.size_is y.is)) m in
         opposite_finite p (third_of q p) s n d.size_is a d.is h (omega (arith, d.bound, x.bound, y.bound))
 
 signs : (s t : Bool) → (t ≡ s) ⊎ (t ≡ not s)

@@ -1,6 +1,6 @@
--- Finite f32 numbers in units of 2 ^ -149: their sums, differences and comparisons.
-use Rattle.std.proofs.Common.{◌≡◌, ℕ, ◌+◌, ◌-◌, ◌*◌, ◌/◌, ◌%◌, ◌^◌, ◌<◌, ◌≤◌, Bool, true, false, cond, not, ◌&&◌, T, eqb, ltb, leb, sym, refl, ap, ◌∙◌, subst, inl, inr, mul_assoc, mul_comm, add-mul, mul-lt-mul_of_pos_right, mul-pos, mul_right_comm, arith, lit<, lt→ltb, pow_pos, rules}
-use native.Mathlib.Nat.{mul-sub}
+-- Finite f32 numbers in units of one size: their sums, differences and comparisons; by their patterns in units of 2 ^ -149.
+use Rattle.std.proofs.Common.{◌≡◌, ℕ, ◌+◌, ◌-◌, ◌*◌, ◌/◌, ◌%◌, ◌^◌, ◌<◌, ◌≤◌, Bool, true, false, cond, not, ◌&&◌, T, eqb, ltb, leb, sym, refl, ap, ◌∙◌, subst, inl, inr, mul_assoc, mul_comm, add-mul, mul-lt-mul_of_pos_right, mul-pos, mul_right_comm, arith, lit<, lt→ltb, rules}
+use native.Mathlib.Nat.{eq_of_mul-eq-mul_right, mul-le-mul_right, mul-sub}
 use lib.Ieee.{Float, nan, inf, fin, binary32, up, down, round, neg, sum, add, sub, lt, eq, fits, of_fields, of_bits, to_bits, below, level}
 use lib.Ieee.Bits.{is_true, is_false, of_bits-to_bits}
 use lib.Ieee.Fits.{down_pos}
@@ -33,16 +33,16 @@ not_infinite nan s n p = absurd p
 not_infinite (inf t) s n p = absurd p
 not_infinite (fin t m e) s n p = refl
 
-pub neg_is : (x : Float) (s : Bool) (n : ℕ) → Is x s n → Is (neg x) (not s) n
+pub neg_is : (d : ℕ) (x : Float) (s : Bool) (n : ℕ) → HasValue x s n d → HasValue (neg x) (not s) n d
 unfolding neg
-neg_is nan s n p = absurd p
-neg_is (inf t) s n p = absurd p
-neg_is (fin t m e) s n p = (ap not p.0, p.1)
+neg_is d nan s n p = absurd p
+neg_is d (inf t) s n p = absurd p
+neg_is d (fin t m e) s n p = (ap not p.0, p.1)
 
 -- ---- sums and differences
 
-num_of : (m u n d d' : ℕ) → m * u * 2 ^ 149 ≡ n * d → m * u * d' * 2 ^ 149 ≡ n * (d * d')
-num_of m u n d d' e = mul_right_comm (m * u) d' (2 ^ 149) ∙ ap (λ (z : ℕ). z * d') e ∙ mul_assoc n d d'
+num_of : (m u n d d' q : ℕ) → m * u * q ≡ n * d → m * u * d' * q ≡ n * (d * d')
+num_of m u n d d' q e = mul_right_comm (m * u) d' q ∙ ap (λ (z : ℕ). z * d') e ∙ mul_assoc n d d'
 
 sum_alike : (s : Bool) (a b c : ℕ) → sum binary32 s a s b c ≡ round binary32 s (a + b) c
 unfolding sum
@@ -77,62 +77,72 @@ sum_level true a b c h =
     ap (λ (z : Bool). cond z (round binary32 false (b - a) c) (round binary32 (true && ltb b a) (a - b) c)) (below_no a b l)
     ∙ ap (λ (z : Bool). round binary32 (true && z) (a - b) c) (below_no b a m)
 
--- the two numbers over one denominator
-record Parts (x y : Float) (s r : Bool) (n k : ℕ) : Type 0 where
+-- two numbers in units of 1 / d over one denominator
+record Parts (d : ℕ) (x y : Float) (s r : Bool) (n k : ℕ) : Type 0 where
   a : ℕ
   b : ℕ
   c : ℕ
   above : 0 < c
-  left : a * 2 ^ 149 ≡ n * c
-  right : b * 2 ^ 149 ≡ k * c
+  left : a * d ≡ n * c
+  right : b * d ≡ k * c
   is : add binary32 x y ≡ sum binary32 s a r b c
 
-parts : (x y : Float) (s r : Bool) (n k : ℕ) → Is x s n → Is y r k → Parts x y s r n k
+parts : (d : ℕ) (x y : Float) (s r : Bool) (n k : ℕ) → HasValue x s n d → HasValue y r k d → Parts d x y s r n k
 unfolding add
-parts nan y s r n k p q = absurd p
-parts (inf t) y s r n k p q = absurd p
-parts (fin t m e) nan s r n k p q = absurd q
-parts (fin t m e) (inf i) s r n k p q = absurd q
-parts (fin t m e) (fin i l d) s r n k p q = record {
+parts u nan y s r n k p q = absurd p
+parts u (inf t) y s r n k p q = absurd p
+parts u (fin t m e) nan s r n k p q = absurd q
+parts u (fin t m e) (inf i) s r n k p q = absurd q
+parts u (fin t m e) (fin i l d) s r n k p q = record {
   a = m * up e * down d;
   b = l * up d * down e;
   c = down e * down d;
   above = mul-pos (down_pos e) (down_pos d);
-  left = num_of m (up e) n (down e) (down d) p.1;
-  right = num_of l (up d) k (down d) (down e) q.1 ∙ ap (λ (z : ℕ). k * z) (mul_comm (down d) (down e));
+  left = num_of m (up e) n (down e) (down d) u p.1;
+  right = num_of l (up d) k (down d) (down e) u q.1 ∙ ap (λ (z : ℕ). k * z) (mul_comm (down d) (down e));
   is = ap (λ (z : Bool). sum binary32 z (m * up e * down d) i (l * up d * down e) (down e * down d)) p.0
       ∙ ap (λ (z : Bool). sum binary32 s (m * up e * down d) z (l * up d * down e) (down e * down d)) q.0;
 }
 
-pub add_same : (x y : Float) (s : Bool) (n k : ℕ) → Is x s n → Is y s k → add binary32 x y ≡ round binary32 s (n + k) (2 ^ 149)
-add_same x y s n k p q =
-    let z : Parts x y s s n k = parts x y s s n k p q in
-    z.is ∙ sum_alike s z.a z.b z.c ∙ round_same binary32 s (z.a + z.b) z.c (n + k) (2 ^ 149) z.above (pow_pos 149) (omega (arith, z.left, z.right, add-mul n k z.c))
+pub add_same : (d : ℕ) → 0 < d → (x y : Float) (s : Bool) (n k : ℕ) → HasValue x s n d → HasValue y s k d → add binary32 x y ≡ round binary32 s (n + k) d
+add_same d h x y s n k p q =
+    let z : Parts d x y s s n k = parts d x y s s n k p q in
+    z.is ∙ sum_alike s z.a z.b z.c ∙ round_same binary32 s (z.a + z.b) z.c (n + k) d z.above h (omega (arith, z.left, z.right, add-mul z.a z.b d, add-mul n k z.c))
 
-minus_over : (a b c n k : ℕ) → a * 2 ^ 149 ≡ n * c → b * 2 ^ 149 ≡ k * c → (b - a) * 2 ^ 149 ≡ (k - n) * c
-minus_over a b c n k x y = omega (arith, mul_comm (k - n) c, mul-sub c k n, mul_comm c k, mul_comm c n)
+minus_over : (d a b c n k : ℕ) → a * d ≡ n * c → b * d ≡ k * c → (b - a) * d ≡ (k - n) * c
+minus_over d a b c n k x y =
+    omega (arith, mul_comm (b - a) d, mul-sub d b a, mul_comm d b, mul_comm d a, mul_comm (k - n) c, mul-sub c k n, mul_comm c k, mul_comm c n)
 
-pub add_more : (x y : Float) (s : Bool) (n k : ℕ) → Is x s n → Is y (not s) k → n < k → add binary32 x y ≡ round binary32 (not s) (k - n) (2 ^ 149)
-add_more x y s n k p q h =
-    let z : Parts x y s (not s) n k = parts x y s (not s) n k p q in
-    let m : n * z.c < k * z.c = mul-lt-mul_of_pos_right h z.above in
-    let l : z.a < z.b = omega (arith, z.left, z.right) in
-    z.is ∙ sum_up s z.a z.b z.c l ∙ round_same binary32 (not s) (z.b - z.a) z.c (k - n) (2 ^ 149) z.above (pow_pos 149) (minus_over z.a z.b z.c n k z.left z.right)
+less_over : (d a b c n k : ℕ) → 0 < c → a * d ≡ n * c → b * d ≡ k * c → n < k → a < b
+less_over d a b c n k p x y h =
+    elim (two_ways a b) [
+      | inl l ↦ l
+      | inr l ↦
+          let i : b * d ≤ a * d = mul-le-mul_right d l in
+          let j : n * c < k * c = mul-lt-mul_of_pos_right h p in
+          absurd (omega arith)
+    ]
 
-pub add-less : (x y : Float) (s : Bool) (n k : ℕ) → Is x s n → Is y (not s) k → k < n → add binary32 x y ≡ round binary32 s (n - k) (2 ^ 149)
-add-less x y s n k p q h =
-    let z : Parts x y s (not s) n k = parts x y s (not s) n k p q in
-    let m : k * z.c < n * z.c = mul-lt-mul_of_pos_right h z.above in
-    let l : z.b < z.a = omega (arith, z.left, z.right) in
-    z.is ∙ sum_down s z.a z.b z.c l ∙ round_same binary32 s (z.a - z.b) z.c (n - k) (2 ^ 149) z.above (pow_pos 149) (minus_over z.b z.a z.c k n z.right z.left)
+pub add_more : (d : ℕ) → 0 < d → (x y : Float) (s : Bool) (n k : ℕ) → HasValue x s n d → HasValue y (not s) k d → n < k → add binary32 x y ≡ round binary32 (not s) (k - n) d
+add_more d o x y s n k p q h =
+    let z : Parts d x y s (not s) n k = parts d x y s (not s) n k p q in
+    let l : z.a < z.b = less_over d z.a z.b z.c n k z.above z.left z.right h in
+    z.is ∙ sum_up s z.a z.b z.c l ∙ round_same binary32 (not s) (z.b - z.a) z.c (k - n) d z.above o (minus_over d z.a z.b z.c n k z.left z.right)
 
-pub add_even : (x y : Float) (s : Bool) (n k : ℕ) → Is x s n → Is y (not s) k → n ≡ k → add binary32 x y ≡ round binary32 false 0 (2 ^ 149)
-add_even x y s n k p q h =
-    let z : Parts x y s (not s) n k = parts x y s (not s) n k p q in
+pub add-less : (d : ℕ) → 0 < d → (x y : Float) (s : Bool) (n k : ℕ) → HasValue x s n d → HasValue y (not s) k d → k < n → add binary32 x y ≡ round binary32 s (n - k) d
+add-less d o x y s n k p q h =
+    let z : Parts d x y s (not s) n k = parts d x y s (not s) n k p q in
+    let l : z.b < z.a = less_over d z.b z.a z.c k n z.above z.right z.left h in
+    z.is ∙ sum_down s z.a z.b z.c l ∙ round_same binary32 s (z.a - z.b) z.c (n - k) d z.above o (minus_over d z.b z.a z.c k n z.right z.left)
+
+pub add_even : (d : ℕ) → 0 < d → (x y : Float) (s : Bool) (n k : ℕ) → HasValue x s n d → HasValue y (not s) k d → n ≡ k → add binary32 x y ≡ round binary32 false 0 d
+add_even d o x y s n k p q h =
+    let z : Parts d x y s (not s) n k = parts d x y s (not s) n k p q in
     let m : n * z.c ≡ k * z.c = ap (λ (i : ℕ). i * z.c) h in
-    let l : z.a ≡ z.b = omega (arith, z.left, z.right) in
-    let o : (z.a - z.b) * 2 ^ 149 ≡ 0 * z.c = omega arith in
-    z.is ∙ sum_level s z.a z.b z.c l ∙ round_same binary32 false (z.a - z.b) z.c 0 (2 ^ 149) z.above (pow_pos 149) o
+    let l : z.a ≡ z.b = eq_of_mul-eq-mul_right d o z.a z.b (z.left ∙ m ∙ sym z.right) in
+    let i : z.a - z.b ≡ 0 = omega arith in
+    let j : (z.a - z.b) * d ≡ 0 * d = ap (λ (v : ℕ). v * d) i in
+    z.is ∙ sum_level s z.a z.b z.c l ∙ round_same binary32 false (z.a - z.b) z.c 0 d z.above o (omega arith)
 
 pub sub_is : (x y : Float) → sub binary32 x y ≡ add binary32 x (neg y)
 unfolding sub
@@ -140,29 +150,29 @@ sub_is x y = refl
 
 -- ---- comparisons
 
-pub record Compared (x y : Float) (s r : Bool) (n k : ℕ) : Type 0 where
+pub record Compared (d : ℕ) (x y : Float) (s r : Bool) (n k : ℕ) : Type 0 where
   pub a : ℕ
   pub b : ℕ
   pub c : ℕ
   pub above : 0 < c
-  pub left : a * 2 ^ 149 ≡ n * c
-  pub right : b * 2 ^ 149 ≡ k * c
+  pub left : a * d ≡ n * c
+  pub right : b * d ≡ k * c
   pub less : lt x y ≡ below s a r b
   pub same : eq x y ≡ level s a r b
 
-pub compared : (x y : Float) (s r : Bool) (n k : ℕ) → Is x s n → Is y r k → Compared x y s r n k
+pub compared : (d : ℕ) (x y : Float) (s r : Bool) (n k : ℕ) → HasValue x s n d → HasValue y r k d → Compared d x y s r n k
 unfolding lt eq
-compared nan y s r n k p q = absurd p
-compared (inf t) y s r n k p q = absurd p
-compared (fin t m e) nan s r n k p q = absurd q
-compared (fin t m e) (inf i) s r n k p q = absurd q
-compared (fin t m e) (fin i l d) s r n k p q = record {
+compared u nan y s r n k p q = absurd p
+compared u (inf t) y s r n k p q = absurd p
+compared u (fin t m e) nan s r n k p q = absurd q
+compared u (fin t m e) (inf i) s r n k p q = absurd q
+compared u (fin t m e) (fin i l d) s r n k p q = record {
   a = m * up e * down d;
   b = l * up d * down e;
   c = down e * down d;
   above = mul-pos (down_pos e) (down_pos d);
-  left = num_of m (up e) n (down e) (down d) p.1;
-  right = num_of l (up d) k (down d) (down e) q.1 ∙ ap (λ (z : ℕ). k * z) (mul_comm (down d) (down e));
+  left = num_of m (up e) n (down e) (down d) u p.1;
+  right = num_of l (up d) k (down d) (down e) u q.1 ∙ ap (λ (z : ℕ). k * z) (mul_comm (down d) (down e));
   less = ap (λ (z : Bool). below z (m * up e * down d) i (l * up d * down e)) p.0
       ∙ ap (λ (z : Bool). below s (m * up e * down d) z (l * up d * down e)) q.0;
   same = ap (λ (z : Bool). level z (m * up e * down d) i (l * up d * down e)) p.0

@@ -2,18 +2,12 @@
 ghost use Rattle.std.specs.Prelude.{◌≡◌};
 ghost use Rattle.geometry.specs.declared.points.Segment.{Segment};
 ghost use Rattle.geometry.specs.declared.points.Segment.TheVariants as Of;
-ghost use Rattle.geometry.specs.Segments.{numbers_of, point_of, points_of, end_point, tangent_end, too_short, same_point, FinitePoint, FinitePoints, FiniteTangent};
+ghost use Rattle.geometry.specs.Segments.{numbers_of, point_of, points_of, end_point, end_of, tangent_end, too_short, same_point, FinitePoint, FinitePoints, FiniteTangent};
 
-use crate::extents::{cubic_is_short, line_is_short, quad_is_short};
+use crate::extents::is_short;
 use crate::points::Point;
 use crate::tangents::{cubic_end, line_end, quad_end};
-use std::num::{f32_from_bits_with_nan, f32_to_bits_with_nan};
-
-fn numbers_of(p: Point) -> (f32, f32)
-    ensures { result ≡ numbers_of p }
-{
-    (f32_from_bits_with_nan(p.x), f32_from_bits_with_nan(p.y))
-}
+use std::num::f32_to_bits_with_nan;
 
 /// The point of two numbers.
 pub fn point_of(x: f32, y: f32) -> Point
@@ -40,10 +34,20 @@ pub trait Curve: Copy {
     fn end_point(self) -> Point
         ensures { result ≡ end_point (segment self) };
 
+    /// The numbers of the start tangent's end, if it is the first segment from `first`.
+    fn tangent_numbers(self, first: Point) -> Option<(f32, f32)>
+        ensures { end_of result ≡ tangent_end first (segment self) };
+
     /// Where its start tangent ends, if it is the first segment from `first`.
     fn tangent_end(self, first: Point) -> Option<Point>
         ensures value { result ≡ tangent_end first (segment self) }
-        ensures finite { FinitePoint first → FinitePoints (points_of (segment self)) → FiniteTangent result };
+        ensures finite { FinitePoint first → FinitePoints (points_of (segment self)) → FiniteTangent result }
+    {
+        let Some((x, y)) = self.tangent_numbers(first) else {
+            return None;
+        };
+        Some(point_of(x, y))
+    }
 
     /// Whether it is too short to keep, from `last`.
     fn is_short(self, last: Point) -> bool
@@ -70,17 +74,14 @@ impl Curve for Line {
         p1
     }
 
-    fn tangent_end(self, first: Point) -> Option<Point> {
+    fn tangent_numbers(self, first: Point) -> Option<(f32, f32)> {
         let Line(p1) = self;
-        let Some((x, y)) = line_end(numbers_of(first), numbers_of(p1)) else {
-            return None;
-        };
-        Some(point_of(x, y))
+        line_end(first.into(), p1.into())
     }
 
     fn is_short(self, last: Point) -> bool {
         let Line(p1) = self;
-        line_is_short(numbers_of(last), numbers_of(p1))
+        is_short(last.into(), &[p1.into()])
     }
 }
 
@@ -92,19 +93,14 @@ impl Curve for Quad {
         p2
     }
 
-    fn tangent_end(self, first: Point) -> Option<Point> {
+    fn tangent_numbers(self, first: Point) -> Option<(f32, f32)> {
         let Quad(p1, p2) = self;
-        let p0 = numbers_of(first);
-        let Some((x, y)) = quad_end(p0, numbers_of(p1), numbers_of(p2)) else {
-            return None;
-        };
-        Some(point_of(x, y))
+        quad_end(first.into(), p1.into(), p2.into())
     }
 
     fn is_short(self, last: Point) -> bool {
         let Quad(p1, p2) = self;
-        let p0 = numbers_of(last);
-        quad_is_short(p0, numbers_of(p1), numbers_of(p2))
+        is_short(last.into(), &[p1.into(), p2.into()])
     }
 }
 
@@ -116,18 +112,13 @@ impl Curve for Cubic {
         p3
     }
 
-    fn tangent_end(self, first: Point) -> Option<Point> {
+    fn tangent_numbers(self, first: Point) -> Option<(f32, f32)> {
         let Cubic(p1, p2, p3) = self;
-        let p0 = numbers_of(first);
-        let Some((x, y)) = cubic_end(p0, numbers_of(p1), numbers_of(p2), numbers_of(p3)) else {
-            return None;
-        };
-        Some(point_of(x, y))
+        cubic_end(first.into(), p1.into(), p2.into(), p3.into())
     }
 
     fn is_short(self, last: Point) -> bool {
         let Cubic(p1, p2, p3) = self;
-        let p0 = numbers_of(last);
-        cubic_is_short(p0, numbers_of(p1), numbers_of(p2), numbers_of(p3))
+        is_short(last.into(), &[p1.into(), p2.into(), p3.into()])
     }
 }

@@ -10,12 +10,7 @@ const INFINITY: u32 = 0x7f80_0000;
 pub fn all_finite(xs: &[f32]) -> bool
     ensures { result ≡ all_finite xs.now }
 {
-    for x in xs {
-        if !x.is_finite() {
-            return false;
-        }
-    }
-    true
+    xs.iter().all(|x| x.is_finite())
 }
 
 /// The number that a pattern stands for, unless it is a NaN's.
@@ -38,16 +33,8 @@ pub fn same_number(a: f32, b: f32) -> bool
 }
 
 /// Whether two lists are equal, number by number.
-pub fn same_numbers(a: &[f32], b: &[f32]) -> bool
-    ensures { result ≡ same_numbers a.now b.now }
+pub fn same_numbers(xs: &[f32], ys: &[f32]) -> bool
+    ensures { result ≡ same_numbers xs.now ys.now }
 {
-    if a.len() != b.len() {
-        return false;
-    }
-    for (i, x) in a.iter().enumerate() {
-        if !same_number(*x, b[i]) {
-            return false;
-        }
-    }
-    true
+    xs == ys
 }

@@ -1,18 +1,13 @@
--- One number more, the first that is not finite, and none left.
-use Rattle.std.proofs.Common.{sym, refl, arith}
-use Rattle.geometry.proofs.Lists.{finite_more, finite_not, finite_all}
+-- The test of each, one after another.
+use Rattle.std.proofs.Common.{◌∙◌, rules}
+use borrow.Author.Tests.{tests}
+use Rattle.std.specs.Float.{float_is_finite}
+use Rattle.std.proofs.lemmas.Iterator.{YieldsList-from_slice}
+use Rattle.std.proofs.lemmas.Iterator.Search.{all_from_yields_List}
+use Rattle.geometry.proofs.Lists.{each_finite}
 use Rattle.geometry.proofs.numbers.all_finite.Goals as goal
 
-pub loop-x-init : goal.loop-x-init
-loop-x-init c = refl
-
-pub loop-x-preserved : goal.loop-x-preserved
-loop-x-preserved c =
-    finite_more c.args.xs.now c.loop-x.x-index c.loop-x-test.true (sym c.if-not-is_finite.ensures.value) c.loop-x.invariant
-
-pub returns-then-not-is_finite : goal.returns-then-not-is_finite
-returns-then-not-is_finite c =
-    finite_not c.args.xs.now c.loop-x.x-index c.loop-x-test.true (sym c.if-not-is_finite.ensures.value) c.loop-x.invariant
-
 pub returns : goal.returns
-returns c = finite_all c.args.xs.now c.loop-x.x-index (omega arith) c.loop-x.invariant
+returns c =
+    all_from_yields_List float_is_finite _ _ _ c.all.ensures.ran (YieldsList-from_slice c.args.xs.now cc) (λ x b q k. search (rules, tests))
+    ∙ each_finite c.args.xs.now
