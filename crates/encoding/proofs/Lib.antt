@@ -1,6 +1,5 @@
 -- Lemmas.
 pub mod Entries
-pub mod Bits
 pub mod Reasons
 pub mod Parts
 pub mod OpenPaths

@@ -10,7 +10,7 @@ use Rattle.values.specs.declared.transform.Transform.{Transform}
 use Rattle.values.specs.declared.style.Style.{Style}
 use Rattle.values.specs.declared.error.Stream.{Stream}
 use Rattle.values.specs.declared.error.Stream.TheVariants.{PathTags, PathData, DrawTags, DrawData, Transforms, Styles}
-use Rattle.encoding.specs.Flags.{forces_transform, forces_style, flags_of}
+use Rattle.encoding.specs.Flags.{flags_of}
 
 -- the six streams as they are brought, used entries and free ones
 pub record Streams : Type 0 where
@@ -66,8 +66,8 @@ abbrev pub sheet : Encoding → Streams → Sheet
 sheet e m = record {
   tags = first e.path_tags m.path_tags;
   outlines = record { words = first e.path_data m.path_data; paths = e.n_paths; segments = e.n_path_segments };
-  transforms = record { written = first e.transforms m.transforms; forced = forces_transform e.flags };
-  styles = record { written = first e.styles m.styles; forced = forces_style e.flags };
+  transforms = record { written = first e.transforms m.transforms; forced = e.force_next_transform };
+  styles = record { written = first e.styles m.styles; forced = e.force_next_style };
   drawn = record { tags = first e.draw_tags m.draw_tags; words = first e.draw_data m.draw_data; clips = e.n_clips; open_clips = e.n_open_clips };
   open_path = None;
 }

@@ -1,5 +1,5 @@
 // The Encoding.
-ghost use Rattle.std.specs.Prelude.{◌+◌, ◌<◌, ◌≤◌};
+ghost use Rattle.std.specs.Prelude.{◌+◌, ◌≤◌};
 ghost use Rattle.values.specs.Streams.{max_entries};
 ghost use Rattle.values.specs.declared.error.Stream.TheVariants as Of;
 
@@ -25,7 +25,8 @@ pub struct Encoding {
     pub(crate) n_path_segments: u32,
     n_clips: u32,
     n_open_clips: u32,
-    flags: u32,
+    force_next_transform: bool,
+    force_next_style: bool,
     ghost few_path_tags: { path_tags ≤ max_entries Of.PathTags },
     ghost few_path_data: { path_data ≤ max_entries Of.PathData },
     ghost few_draw_tags: { draw_tags ≤ max_entries Of.DrawTags },
@@ -35,7 +36,6 @@ pub struct Encoding {
     ghost tagged: { n_paths + n_path_segments ≤ path_tags },
     ghost drawn: { n_clips ≤ draw_tags },
     ghost begun: { n_open_clips ≤ n_clips },
-    ghost two_flags: { flags < 4 },
 }
 
 /// The used lengths of the six streams.

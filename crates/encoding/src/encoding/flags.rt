@@ -1,6 +1,6 @@
-// The two bits of the flags.
-ghost use Rattle.std.specs.Prelude.{◌≡◌, ◌<◌, true, false};
-ghost use Rattle.encoding.specs.Flags.{forces_transform, forces_style, Flags};
+// The word that tells what is forced next.
+ghost use Rattle.std.specs.Prelude.{◌≡◌};
+ghost use Rattle.encoding.specs.Flags.{flags_of};
 
 use crate::encoding::Encoding;
 
@@ -11,32 +11,15 @@ impl Encoding {
     pub const FORCE_NEXT_STYLE: u32 = 2;
 }
 
-pub(super) fn is_transform_forced(flags: u32) -> bool
-    requires { flags < 4 }
-    ensures { result ≡ forces_transform flags }
+// The word of the two bits.
+pub(super) fn flags_of(transform: bool, style: bool) -> u32
+    ensures { result ≡ flags_of transform style }
 {
-    flags & Encoding::FORCE_NEXT_TRANSFORM != 0
-}
-
-pub(super) fn is_style_forced(flags: u32) -> bool
-    requires { flags < 4 }
-    ensures { result ≡ forces_style flags }
-{
-    flags & Encoding::FORCE_NEXT_STYLE != 0
-}
-
-// The flags once a transform is written.
-pub(super) fn without_transform(flags: u32) -> u32
-    requires { flags < 4 }
-    ensures { Flags result false (forces_style flags) }
-{
-    flags & !Encoding::FORCE_NEXT_TRANSFORM
-}
-
-// The flags once a style is written.
-pub(super) fn without_style(flags: u32) -> u32
-    requires { flags < 4 }
-    ensures { Flags result (forces_transform flags) false }
-{
-    flags & !Encoding::FORCE_NEXT_STYLE
+    let transform_bit = if transform {
+        Encoding::FORCE_NEXT_TRANSFORM
+    } else {
+        0
+    };
+    let style_bit = if style { Encoding::FORCE_NEXT_STYLE } else { 0 };
+    transform_bit + style_bit
 }

@@ -5,9 +5,6 @@ ghost use Rattle.encoding.specs.Promises.{OnStyles, OnTransforms};
 ghost use Rattle.encoding.specs.Rules.{transform_rule, style_rule, fill_rule, stroke_rule};
 
 use crate::encoding::Encoding;
-use crate::encoding::flags::{
-    is_style_forced, is_transform_forced, without_style, without_transform,
-};
 use crate::streams::{append, fits, held, is_new};
 use monoid::path::PathTag;
 use values::error::{EncodeError, Stream};
@@ -35,8 +32,12 @@ impl Encoding {
         if !transform.is_finite() {
             return Err(EncodeError::NotFinite);
         }
-        let forced = is_transform_forced(self.flags);
-        if !is_new(forced, transforms, self.transforms, transform) {
+        if !is_new(
+            self.force_next_transform,
+            transforms,
+            self.transforms,
+            transform,
+        ) {
             return Ok(false);
         }
         fits(
@@ -49,7 +50,7 @@ impl Encoding {
         )?;
         self.path_tags = append(path_tags, self.path_tags, &[PathTag::TRANSFORM]);
         self.transforms = append(transforms, self.transforms, &[transform]);
-        self.flags = without_transform(self.flags);
+        self.force_next_transform = false;
         Ok(true)
     }
 
@@ -71,8 +72,7 @@ impl Encoding {
             styles,
         )?;
         let style = made?;
-        let forced = is_style_forced(self.flags);
-        if !is_new(forced, styles, self.styles, style) {
+        if !is_new(self.force_next_style, styles, self.styles, style) {
             return Ok(());
         }
         fits(
@@ -85,7 +85,7 @@ impl Encoding {
         )?;
         self.path_tags = append(path_tags, self.path_tags, &[PathTag::STYLE]);
         self.styles = append(styles, self.styles, &[style]);
-        self.flags = without_style(self.flags);
+        self.force_next_style = false;
         Ok(())
     }
 

@@ -3,6 +3,7 @@ ghost use Rattle.std.specs.Prelude.{◌≡◌};
 ghost use Rattle.encoding.specs.Sheet.{Streams, sheet, blank, offsets_of, counts_of};
 ghost use Rattle.encoding.specs.Rules.{forced};
 
+use crate::encoding::flags::flags_of;
 use crate::encoding::{Counts, Encoding, StreamOffsets};
 
 impl Encoding {
@@ -21,7 +22,8 @@ impl Encoding {
             n_path_segments: 0,
             n_clips: 0,
             n_open_clips: 0,
-            flags: 0,
+            force_next_transform: false,
+            force_next_style: false,
         }
     }
 
@@ -36,7 +38,8 @@ impl Encoding {
     pub fn force_next_transform_and_style(&mut self)
         ensures { (m : Streams) → sheet self.new m ≡ forced (sheet self.old m) }
     {
-        self.flags = Encoding::FORCE_NEXT_TRANSFORM | Encoding::FORCE_NEXT_STYLE;
+        self.force_next_transform = true;
+        self.force_next_style = true;
     }
 
     /// How much of each stream is used.
@@ -62,7 +65,7 @@ impl Encoding {
             n_path_segments: self.n_path_segments,
             n_clips: self.n_clips,
             n_open_clips: self.n_open_clips,
-            flags: self.flags,
+            flags: flags_of(self.force_next_transform, self.force_next_style),
         }
     }
 }
