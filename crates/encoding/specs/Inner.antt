@@ -1,5 +1,5 @@
 -- What functions inside the crate promise one another. Assumes nothing.
-use Rattle.std.specs.Prelude.{◌≡◌, ℕ, ◌+◌, ◌<◌, ◌≤◌, Bool, cond, Ok, Err, Result}
+use Rattle.std.specs.Prelude.{◌≡◌, ℕ, ◌+◌, ◌<◌, ◌≤◌, Bool, false, cond, List, [], ◌∷◌, Ok, Err, Option, Result}
 use Rattle.path.specs.declared.state.Declined.{Declined}
 use Rattle.path.specs.declared.state.Declined.TheVariants.{Short, Full}
 use Rattle.path.specs.declared.state.Finished.{Finished}
@@ -12,13 +12,53 @@ use Rattle.values.specs.declared.error.Stream.TheVariants.{PathTags, PathData}
 use Rattle.values.specs.declared.error.EncodeError.{EncodeError}
 use Rattle.values.specs.declared.error.EncodeError.TheVariants.{ShortStream, FullStream}
 use Rattle.values.specs.Streams.{max_entries}
-use Rattle.encoding.specs.Sheet.{Streams, Sheet, first, sheet, with_outlines}
-use Rattle.encoding.specs.Rules.{Nothing}
+use Rattle.values.specs.declared.room.Room.{Room}
+use Rattle.values.specs.Streams.{room}
+use Rattle.values.specs.Errors.{short, full, or_else, told}
+use Rattle.values.specs.Settings.{is_new}
+use Rattle.monoid.specs.declared.path.PathTag.{PathTag}
+use Rattle.encoding.specs.declared.encoding.Written.{Written}
+use Rattle.encoding.specs.Sheet.{Streams, Sheet, Used, Settings, first, settings, sheet, with_outlines}
+use Rattle.encoding.specs.Promises.{left_by}
+use Rattle.encoding.specs.Rules.{Nothing, added, set_to, error_in}
 
 -- what is known once a check of two streams has not declined
 abbrev pub Passed : Result Nothing EncodeError → Type 0 → Type 0 → Type 0
 Passed (Ok v) P Q = P × Q
 Passed (Err e) P Q = Unit {0}
+
+-- the path tags, and the transforms or the styles
+pub record Place (X : Type 0) : Type 0 where
+  pub tags : Used PathTag
+  pub settings : Settings X
+
+abbrev pub place : {X : Type 0} → ℕ → List PathTag → Written → List X → Place X
+place n ts u xs = record { tags = first n ts; settings = settings u xs }
+
+-- whether a value that was made is written there
+abbrev pub is_due : {X : Type 0} → (X → X → Bool) → Result X EncodeError → Place X → Bool
+is_due same (Ok x) p = is_new same p.settings.forced p.settings.written.entries x
+is_due same (Err e) p = false
+
+abbrev pub set_at : {X : Type 0} → PathTag → X → Place X → Place X
+set_at t x p = record { tags = added p.tags (t ∷ []); settings = set_to p.settings x }
+
+-- what a value that was made leaves there
+abbrev pub set_by : {X : Type 0} → (X → X → Bool) → PathTag → Result X EncodeError → Place X → Place X
+set_by same t (Ok x) p = cond (is_due same (Ok x) p) (set_at t x p) p
+set_by same t (Err e) p = p
+
+abbrev pub rooms_of : {X : Type 0} → Stream → ℕ → ℕ → Place X → List Room
+rooms_of x n k p = room PathTags p.tags.count n ∷ room x p.settings.written.count k ∷ []
+
+-- why a value is declined, with room for n tags and k values
+abbrev pub set_reason : {X : Type 0} → (X → X → Bool) → Stream → PathTag → ℕ → ℕ → Result X EncodeError → Place X → Option EncodeError
+set_reason same x t n k made p = or_else (short (rooms_of x n k p)) (or_else (error_in made) (full (rooms_of x n k (set_by same t made p))))
+
+-- a value is written with its tag, unless it is the last one or is declined
+pub record SetAs {X : Type 0} (same : X → X → Bool) (x : Stream) (t : PathTag) (n k : ℕ) (made : Result X EncodeError) (p : Place X) (r : Result Bool EncodeError) (p' : Place X) : Type 0 where
+  pub says : r ≡ told (set_reason same x t n k made p) (is_due same made p)
+  pub leaves : p' ≡ left_by (set_reason same x t n k made p) p (set_by same t made p)
 
 -- an accepted command adds one draw tag, and changes no count of clips
 abbrev pub OneMore : Result Nothing EncodeError → Encoding → Encoding → Type 0

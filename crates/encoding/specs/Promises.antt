@@ -11,7 +11,8 @@ use Rattle.values.specs.declared.transform.Transform.{Transform}
 use Rattle.values.specs.declared.style.Style.{Style}
 use Rattle.values.specs.declared.error.Stream.{Stream}
 use Rattle.values.specs.declared.error.EncodeError.{EncodeError}
-use Rattle.values.specs.Streams.{Room, room}
+use Rattle.values.specs.declared.room.Room.{Room}
+use Rattle.values.specs.Streams.{room}
 use Rattle.values.specs.Errors.{short, full, or_else, told}
 use Rattle.encoding.specs.Sheet.{Streams, Sheet, sheet, used_in, space_in, with_draws, with_styles, with_transforms, with_tags, with_paths, with_open}
 
@@ -32,7 +33,7 @@ abbrev pub reason : {V : Type 0} → Rule V → Sheet → Streams → Option Enc
 reason k s m = or_else (short (rooms k.on s m)) (or_else (k.own s) (full (rooms k.on (k.next s) m)))
 
 -- an accepted call leaves what its rule says, and a declined one what was there
-abbrev pub left_by : Option EncodeError → Sheet → Sheet → Sheet
+abbrev pub left_by : {S : Type 0} → Option EncodeError → S → S → S
 left_by None was next = next
 left_by (Some e) was next = was
 

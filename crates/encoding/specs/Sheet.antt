@@ -4,6 +4,7 @@ use Rattle.path.specs.Rules.{Path}
 use Rattle.monoid.specs.declared.path.PathTag.{PathTag}
 use Rattle.monoid.specs.declared.draw.DrawTag.{DrawTag}
 use Rattle.encoding.specs.declared.encoding.Encoding.{Encoding}
+use Rattle.encoding.specs.declared.encoding.Written.{Written}
 use Rattle.encoding.specs.declared.encoding.StreamOffsets.{StreamOffsets}
 use Rattle.encoding.specs.declared.encoding.Counts.{Counts}
 use Rattle.values.specs.declared.transform.Transform.{Transform}
@@ -62,12 +63,15 @@ pub record Sheet : Type 0 where
 abbrev pub first : {X : Type 0} → ℕ → List X → Used X
 first n xs = record { count = n; entries = take n xs }
 
+abbrev pub settings : {X : Type 0} → Written → List X → Settings X
+settings u xs = record { written = first u.used xs; forced = u.forced }
+
 abbrev pub sheet : Encoding → Streams → Sheet
 sheet e m = record {
   tags = first e.path_tags m.path_tags;
   outlines = record { words = first e.path_data m.path_data; paths = e.n_paths; segments = e.n_path_segments };
-  transforms = record { written = first e.transforms m.transforms; forced = e.force_next_transform };
-  styles = record { written = first e.styles m.styles; forced = e.force_next_style };
+  transforms = settings e.transforms m.transforms;
+  styles = settings e.styles m.styles;
   drawn = record { tags = first e.draw_tags m.draw_tags; words = first e.draw_data m.draw_data; clips = e.n_clips; open_clips = e.n_open_clips };
   open_path = None;
 }

@@ -19,23 +19,28 @@ pub struct Encoding {
     pub(crate) path_data: usize,
     draw_tags: usize,
     draw_data: usize,
-    transforms: usize,
-    styles: usize,
+    transforms: Written,
+    styles: Written,
     pub(crate) n_paths: u32,
     pub(crate) n_path_segments: u32,
     n_clips: u32,
     n_open_clips: u32,
-    force_next_transform: bool,
-    force_next_style: bool,
     ghost few_path_tags: { path_tags ≤ max_entries Of.PathTags },
     ghost few_path_data: { path_data ≤ max_entries Of.PathData },
     ghost few_draw_tags: { draw_tags ≤ max_entries Of.DrawTags },
     ghost few_draw_data: { draw_data ≤ max_entries Of.DrawData },
-    ghost few_transforms: { transforms ≤ max_entries Of.Transforms },
-    ghost few_styles: { styles ≤ max_entries Of.Styles },
+    ghost few_transforms: { transforms.used ≤ max_entries Of.Transforms },
+    ghost few_styles: { styles.used ≤ max_entries Of.Styles },
     ghost tagged: { n_paths + n_path_segments ≤ path_tags },
     ghost drawn: { n_clips ≤ draw_tags },
     ghost begun: { n_open_clips ≤ n_clips },
+}
+
+// How many transforms or styles are used, and whether the next is written though it be the same as the last.
+#[derive(Clone, Copy)]
+pub(crate) struct Written {
+    used: usize,
+    forced: bool,
 }
 
 /// The used lengths of the six streams.

@@ -1,11 +1,11 @@
 // Used entries of a stream, and the checks of the streams that a call is lent.
-ghost use Rattle.std.specs.Prelude.{◌≡◌, ◌+◌, ◌≤◌, [], ◌∷◌, ◌++◌, length, take};
-ghost use Rattle.values.specs.Streams.{room, Fit, last_of};
-ghost use Rattle.values.specs.Errors.{short, full, told};
+ghost use Rattle.std.specs.Prelude.{◌≡◌, ◌+◌, ◌≤◌, [], ◌∷◌, ◌++◌, length, take, None, Some, OnOk, IfErr};
+ghost use Rattle.values.specs.Streams.{room, Fit};
+ghost use Rattle.values.specs.Errors.{short, full};
 ghost use Rattle.values.specs.Settings.{is_new};
-ghost use Rattle.encoding.specs.Inner.{Passed};
 
 use values::error::{EncodeError, Stream};
+use values::room::Room;
 use values::setting::Setting;
 
 // Writes entries after the used ones, and says how many are used then.
@@ -20,69 +20,52 @@ pub(crate) fn append<T: Copy>(stream: &mut [T], used: usize, entries: &[T]) -> u
     end
 }
 
-// The last of the used entries.
-pub(crate) fn last<T: Copy>(stream: &[T], used: usize) -> Option<T>
-    requires { used ≤ length stream.now }
-    ensures { result ≡ last_of (take used stream.now) }
-{
-    if used == 0 {
-        None
-    } else {
-        Some(stream[used - 1])
-    }
-}
-
 // Whether a value is to be written: it is forced, or the last of the used ones is not the same.
+#[tactic(auto, using(crate::proofs::Entries::last_entry))]
 pub(crate) fn is_new<T: Setting>(forced: bool, stream: &[T], used: usize, value: T) -> bool
     requires { used ≤ length stream.now }
     ensures { result ≡ is_new T.Setting.same forced (take used stream.now) value }
 {
-    if forced {
-        return true;
-    }
-    match last(stream, used) {
-        Some(latest) => !latest.is_same(value),
-        None => true,
+    forced
+        || stream[..used]
+            .last()
+            .is_none_or(|latest| !latest.is_same(value))
+}
+
+// How much of a stream is used, if it is these entries.
+pub(crate) fn room<T>(stream: Stream, used: usize, entries: &[T]) -> Room
+    ensures { result ≡ room stream used (length entries.now) }
+{
+    Room {
+        stream,
+        used,
+        space: entries.len(),
     }
 }
 
-// Declines for the first of two streams, x and y, that is shorter than its used length.
-pub(crate) fn held<X, Y>(
-    x: Stream,
-    x_used: usize,
-    xs: &[X],
-    y: Stream,
-    y_used: usize,
-    ys: &[Y],
-) -> Result<(), EncodeError>
-    ensures says { result ≡ told (short (room x x_used (length xs.now) ∷ room y y_used (length ys.now) ∷ [])) tt }
-    ensures passed { Passed result (x_used ≤ length xs.now) (y_used ≤ length ys.now) }
+// Declines for the first of two streams that is shorter than its used length.
+pub(crate) fn held(a: Room, b: Room) -> Result<(), EncodeError>
+    ensures passed { OnOk result ((short (a ∷ b ∷ []) ≡ None) × (a.used ≤ a.space) × (b.used ≤ b.space)) }
+    ensures declined { IfErr result (λ e. short (a ∷ b ∷ []) ≡ Some e) }
 {
-    if xs.len() < x_used {
-        Err(EncodeError::ShortStream(x))
-    } else if ys.len() < y_used {
-        Err(EncodeError::ShortStream(y))
+    if a.space < a.used {
+        Err(EncodeError::ShortStream(a.stream))
+    } else if b.space < b.used {
+        Err(EncodeError::ShortStream(b.stream))
     } else {
         Ok(())
     }
 }
 
-// Declines for the first of two streams, x and y, that would be used past its end or its maximum.
-pub(crate) fn fits<X, Y>(
-    x: Stream,
-    x_used: usize,
-    xs: &[X],
-    y: Stream,
-    y_used: usize,
-    ys: &[Y],
-) -> Result<(), EncodeError>
-    ensures says { result ≡ told (full (room x x_used (length xs.now) ∷ room y y_used (length ys.now) ∷ [])) tt }
-    ensures passed { Passed result (Fit (room x x_used (length xs.now))) (Fit (room y y_used (length ys.now))) }
+// Declines for the first of two streams that would be used past its end or its maximum.
+pub(crate) fn fits(a: Room, b: Room) -> Result<(), EncodeError>
+    ensures passed { OnOk result ((full (a ∷ b ∷ []) ≡ None) × Fit a × Fit b) }
+    ensures declined { IfErr result (λ e. full (a ∷ b ∷ []) ≡ Some e) }
 {
-    if xs.len() < x_used || x.max_entries() < x_used {
-        Err(EncodeError::FullStream(x))
-    } else if ys.len() < y_used || y.max_entries() < y_used {
-        Err(EncodeError::FullStream(y))
+    if a.space < a.used || a.stream.max_entries() < a.used {
+        Err(EncodeError::FullStream(a.stream))
+    } else if b.space < b.used || b.stream.max_entries() < b.used {
+        Err(EncodeError::FullStream(b.stream))
     } else {
         Ok(())
     }

@@ -2,7 +2,8 @@
 use Rattle.std.specs.Prelude.{ℕ, Bool, cond, ◌||◌, List, [], ◌∷◌, Some, None, Ok, Err, Option, Result, nat_lt}
 use Rattle.values.specs.declared.error.EncodeError.{EncodeError}
 use Rattle.values.specs.declared.error.EncodeError.TheVariants.{ShortStream, FullStream, NotFinite, ZeroWidth, NoOpenClip}
-use Rattle.values.specs.Streams.{Room, max_entries}
+use Rattle.values.specs.declared.room.Room.{Room}
+use Rattle.values.specs.Streams.{max_entries}
 
 -- the number of each refusal
 abbrev pub number : EncodeError → ℕ

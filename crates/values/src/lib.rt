@@ -3,6 +3,7 @@
 
 pub mod element;
 pub mod error;
+pub mod room;
 pub mod setting;
 pub mod style;
 pub mod transform;

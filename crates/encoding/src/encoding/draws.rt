@@ -5,7 +5,7 @@ ghost use Rattle.encoding.specs.Rules.{draw_rule, color_rule, blur_rule, begin_c
 ghost use Rattle.encoding.specs.Inner.{OneMore};
 
 use crate::encoding::Encoding;
-use crate::streams::{append, fits, held};
+use crate::streams::{append, fits, held, room};
 use geometry::numbers::all_finite;
 use monoid::draw::DrawTag;
 use monoid::path::PathTag;
@@ -27,23 +27,15 @@ impl Encoding {
         ensures grows { OneMore result self.old self.new }
     {
         held(
-            Stream::DrawTags,
-            self.draw_tags,
-            draw_tags,
-            Stream::DrawData,
-            self.draw_data,
-            draw_data,
+            room(Stream::DrawTags, self.draw_tags, draw_tags),
+            room(Stream::DrawData, self.draw_data, draw_data),
         )?;
         if !is_finite {
             return Err(EncodeError::NotFinite);
         }
         fits(
-            Stream::DrawTags,
-            self.draw_tags + 1,
-            draw_tags,
-            Stream::DrawData,
-            self.draw_data + words.len(),
-            draw_data,
+            room(Stream::DrawTags, self.draw_tags + 1, draw_tags),
+            room(Stream::DrawData, self.draw_data + words.len(), draw_data),
         )?;
         self.draw_tags = append(draw_tags, self.draw_tags, &[tag]);
         self.draw_data = append(draw_data, self.draw_data, words);
@@ -115,23 +107,15 @@ impl Encoding {
         ensures { OnTags end_clip self.old path_tags.old draw_tags.old result self.new path_tags.new draw_tags.new }
     {
         held(
-            Stream::PathTags,
-            self.path_tags,
-            path_tags,
-            Stream::DrawTags,
-            self.draw_tags,
-            draw_tags,
+            room(Stream::PathTags, self.path_tags, path_tags),
+            room(Stream::DrawTags, self.draw_tags, draw_tags),
         )?;
         if self.n_open_clips == 0 {
             return Err(EncodeError::NoOpenClip);
         }
         fits(
-            Stream::PathTags,
-            self.path_tags + 1,
-            path_tags,
-            Stream::DrawTags,
-            self.draw_tags + 1,
-            draw_tags,
+            room(Stream::PathTags, self.path_tags + 1, path_tags),
+            room(Stream::DrawTags, self.draw_tags + 1, draw_tags),
         )?;
         self.path_tags = append(path_tags, self.path_tags, &[PathTag::PATH]);
         self.draw_tags = append(draw_tags, self.draw_tags, &[DrawTag::END_CLIP]);

@@ -2,7 +2,7 @@
 ghost use Rattle.encoding.specs.Elements.{OnPaths, empty_shape_rule};
 
 use crate::encoding::Encoding;
-use crate::streams::{append, fits, held};
+use crate::streams::{append, fits, held, room};
 use monoid::path::PathTag;
 use values::error::{EncodeError, Stream};
 
@@ -19,20 +19,12 @@ impl Encoding {
         ensures { OnPaths empty_shape_rule self.old path_tags.old path_data.old result self.new path_tags.new path_data.new }
     {
         held(
-            Stream::PathTags,
-            self.path_tags,
-            path_tags,
-            Stream::PathData,
-            self.path_data,
-            path_data,
+            room(Stream::PathTags, self.path_tags, path_tags),
+            room(Stream::PathData, self.path_data, path_data),
         )?;
         fits(
-            Stream::PathTags,
-            self.path_tags + 2,
-            path_tags,
-            Stream::PathData,
-            self.path_data + 4,
-            path_data,
+            room(Stream::PathTags, self.path_tags + 2, path_tags),
+            room(Stream::PathData, self.path_data + 4, path_data),
         )?;
         self.path_tags = append(path_tags, self.path_tags, &[LAST_LINE, PathTag::PATH]);
         self.path_data = append(path_data, self.path_data, &[0, 0, 0, 0]);

@@ -4,7 +4,12 @@ ghost use Rattle.encoding.specs.Sheet.{Streams, sheet, blank, offsets_of, counts
 ghost use Rattle.encoding.specs.Rules.{forced};
 
 use crate::encoding::flags::flags_of;
-use crate::encoding::{Counts, Encoding, StreamOffsets};
+use crate::encoding::{Counts, Encoding, StreamOffsets, Written};
+
+const NONE: Written = Written {
+    used: 0,
+    forced: false,
+};
 
 impl Encoding {
     /// An Encoding with nothing in it.
@@ -16,14 +21,12 @@ impl Encoding {
             path_data: 0,
             draw_tags: 0,
             draw_data: 0,
-            transforms: 0,
-            styles: 0,
+            transforms: NONE,
+            styles: NONE,
             n_paths: 0,
             n_path_segments: 0,
             n_clips: 0,
             n_open_clips: 0,
-            force_next_transform: false,
-            force_next_style: false,
         }
     }
 
@@ -38,8 +41,8 @@ impl Encoding {
     pub fn force_next_transform_and_style(&mut self)
         ensures { (m : Streams) → sheet self.new m ≡ forced (sheet self.old m) }
     {
-        self.force_next_transform = true;
-        self.force_next_style = true;
+        self.transforms.forced = true;
+        self.styles.forced = true;
     }
 
     /// How much of each stream is used.
@@ -51,8 +54,8 @@ impl Encoding {
             path_data: self.path_data,
             draw_tags: self.draw_tags,
             draw_data: self.draw_data,
-            transforms: self.transforms,
-            styles: self.styles,
+            transforms: self.transforms.used,
+            styles: self.styles.used,
         }
     }
 
@@ -65,7 +68,7 @@ impl Encoding {
             n_path_segments: self.n_path_segments,
             n_clips: self.n_clips,
             n_open_clips: self.n_open_clips,
-            flags: flags_of(self.force_next_transform, self.force_next_style),
+            flags: flags_of(self.transforms.forced, self.styles.forced),
         }
     }
 }

@@ -10,7 +10,7 @@ ghost use Rattle.encoding.specs.Inner.{Passed, tags_used, words_used};
 
 use crate::path_encoder::PathEncoder;
 use crate::path_encoder::relay::relay;
-use crate::streams::held;
+use crate::streams::{held, room};
 use geometry::curves::{Cubic, Line, Quad, point_of};
 use geometry::numbers::all_finite;
 use monoid::path::PathTag;
@@ -30,12 +30,16 @@ impl PathEncoder {
     {
         let used = self.path.used();
         held(
-            Stream::PathTags,
-            self.encoding.path_tags + used.tags,
-            path_tags,
-            Stream::PathData,
-            self.encoding.path_data + used.words,
-            path_data,
+            room(
+                Stream::PathTags,
+                self.encoding.path_tags + used.tags,
+                path_tags,
+            ),
+            room(
+                Stream::PathData,
+                self.encoding.path_data + used.words,
+                path_data,
+            ),
         )?;
         if !is_finite {
             return Err(EncodeError::NotFinite);

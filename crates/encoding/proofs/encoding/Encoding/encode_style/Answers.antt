@@ -1,32 +1,10 @@
-use Rattle.std.proofs.Common.{◌≡◌, true, cond, Ok, Err, sym, ap, ◌∙◌, rules}
-use Rattle.std.proofs.lemmas.Result.{err_from_is_err_and}
-use Rattle.values.specs.Errors.{full}
-use Rattle.encoding.specs.Sheet.{sheet, with_styles}
-use Rattle.encoding.specs.Promises.{rooms}
-use Rattle.encoding.specs.Rules.{Nothing, style_rule, styled, new_style, set_style, error_in}
-use Rattle.encoding.proofs.Reasons.{told_none, told-some, too_short, too_full}
+use Rattle.std.proofs.Common.{◌≡◌, Err, sym, subst, rules}
+use Rattle.encoding.specs.Sheet.{with_styles}
+use Rattle.encoding.proofs.Settings.{style_declined}
 use Rattle.encoding.proofs.encoding.Encoding.encode_style.Goals as goal
 
-pub returns-in_err-held : goal.returns-in_err-held
-returns-in_err-held c = λ m.
-    let was = with_styles m c.args.path_tags.now c.args.styles.now in
-    let p = err_from_is_err_and c.from_residual.result c.from_residual.ensures.1 in
-    let e = c.in_err-held.field-0.0 in
-    too_short (style_rule {V = Nothing} tt c.args.made) (sheet c.args.self.now was) was _ e (p.1 ∙ ap Err p.2)
-    (told-some _ e _ (sym c.in_err-held.was ∙ c.held.ensures.says))
-
-pub returns-in_err-fits : goal.returns-in_err-fits
-returns-in_err-fits c = λ m.
-    let was = with_styles m c.args.path_tags.now c.args.styles.now in
-    let s = sheet c.args.self.now was in
-    let k = style_rule {V = Nothing} tt c.args.made in
-    let st = c.in_ok-style.style in
-    let e = c.in_err-fits.field-0.0 in
-    let made : c.args.made ≡ Ok st = c.in_ok-style.was in
-    let new : new_style st s ≡ true = search rules in
-    let p = err_from_is_err_and c.from_residual-in_err-fits.result c.from_residual-in_err-fits.ensures.1 in
-    let r : c.from_residual-in_err-fits.result ≡ Err e = p.1 ∙ ap Err p.2 in
-    too_full k s was _ e r
-    (told_none _ _ _ (sym c.in_ok-held.was ∙ c.held.ensures.says))
-    (ap error_in made)
-    (ap (λ x. full (rooms k.on (set_style x s) was)) made ∙ ap (λ b. full (rooms k.on (cond b (styled st s) s) was)) new ∙ told-some _ e _ (sym c.in_err-fits.was ∙ c.fits.ensures.says))
+pub returns-in_err-encode_setting : goal.returns-in_err-encode_setting
+returns-in_err-encode_setting c = λ m.
+    let e = c.in_err-encode_setting.field-0.0 in
+    let r : c.from_residual.result ≡ Err e = search rules in
+    rw r (style_declined c.args.made c.args.self.now (with_styles m c.args.path_tags.now c.args.styles.now) tt e _ c.in_err-encode_setting.ensures.set)
