@@ -6,7 +6,7 @@ use crate::state::PathState;
 use geometry::points::Point;
 
 mod calls;
-mod cycle;
+mod rules;
 mod space;
 mod steps;
 
