@@ -144,8 +144,8 @@ module _ (e : Encoding) (o : OpenPath) (ts : List PathTag) (ws : List ℕ) (z y 
           let r = (ready_accepted (Finish mark) lended done.accepted).room in
           let tags = length_part b z ts (omega arith) (omega arith) in
           let words = length_part d y ws (omega arith) (omega arith) in
-          let ft = ap (λ (g : Finished). g.tags) done.says in
-          let fw = ap (λ (g : Finished). g.words) done.says in
+          let ft = ap (λ (g : Finished). g.used.tags) done.says in
+          let fw = ap (λ (g : Finished). g.used.words) done.says in
           let fs = ap (λ (g : Finished). g.segments) done.says in
           record {
             tags = omega (arith, r.tags);
@@ -155,13 +155,13 @@ module _ (e : Encoding) (o : OpenPath) (ts : List PathTag) (ws : List ℕ) (z y 
 
       joined_is : joined e f mark left ≡ with_open None (with_outlines (added s.tags (finish mark own).own.tags) (outlined mark own s.outlines) s)
       joined_is =
-          let ft : f.tags ≡ length (finish mark own).own.tags = ap (λ (g : Finished). g.tags) is-finished in
-          let fw : f.words ≡ length (finish mark own).own.words = ap (λ (g : Finished). g.words) is-finished in
+          let ft : f.used.tags ≡ length (finish mark own).own.tags = ap (λ (g : Finished). g.used.tags) is-finished in
+          let fw : f.used.words ≡ length (finish mark own).own.words = ap (λ (g : Finished). g.used.words) is-finished in
           let fs : f.segments ≡ counted own = ap (λ (g : Finished). g.segments) is-finished in
-          let tags : take f.tags tp ≡ (finish mark own).own.tags = done.tags ∙ ap (λ p. (finish mark p).own.tags) same in
-          let words : take f.words wp ≡ (finish mark own).own.words = done.words ∙ ap (λ p. (finish mark p).own.words) same in
-          let all_tags = take_behind b (z - b) f.tags ts tp (omega arith) (long_enough f.tags tp _ tags ft) ∙ ap (λ us. take b ts ++ us) tags in
-          let All-words = take_behind d (y - d) f.words ws wp (omega arith) (long_enough f.words wp _ words fw) ∙ ap (λ us. take d ws ++ us) words in
+          let tags : take f.used.tags tp ≡ (finish mark own).own.tags = done.tags ∙ ap (λ p. (finish mark p).own.tags) same in
+          let words : take f.used.words wp ≡ (finish mark own).own.words = done.words ∙ ap (λ p. (finish mark p).own.words) same in
+          let all_tags = take_behind b (z - b) f.used.tags ts tp (omega arith) (long_enough f.used.tags tp _ tags ft) ∙ ap (λ us. take b ts ++ us) tags in
+          let All-words = take_behind d (y - d) f.used.words ws wp (omega arith) (long_enough f.used.words wp _ words fw) ∙ ap (λ us. take d ws ++ us) words in
           λ i. record {
             tags = record { count = b + ft i; entries = all_tags i };
             outlines = record { words = record { count = d + fw i; entries = All-words i }; paths = e.n_paths + cond mark 1 0; segments = e.n_path_segments + fs i };

@@ -64,8 +64,8 @@ module _ (t : Transform) (e : Encoding) (m : Streams) where
       λ i. or_else (short (rooms (transform_rule t).on s m)) (full (rooms (transform_rule t).on (put_next i) m)) in (
         a.says ∙ ap (λ w. told w (new_transform t s)) same,
         ap put a.leaves
-        ∙ put_left put (set_reason same_transform Transforms transform_tag (length m.path_tags) (length m.transforms) (Ok t) here) here moved
-        ∙ λ i. left_by (same i) s (put_next i),
+            ∙ put_left put (set_reason same_transform Transforms transform_tag (length m.path_tags) (length m.transforms) (Ok t) here) here moved
+            ∙ λ i. left_by (same i) s (put_next i),
       )
   by_finite false r p a =
       let w = short (rooms (transform_rule t).on s m) in (

@@ -89,12 +89,12 @@ relayed (Err d) = Err (error_of d)
 
 -- a finished path fits behind the Encoding's entries, with a tag for each segment and for itself
 pub record FitsBehind (e : Encoding) (f : Finished) (mark : Bool) : Type 0 where
-  pub tags : e.path_tags + f.tags ≤ max_entries PathTags
-  pub words : e.path_data + f.words ≤ max_entries PathData
-  pub tagged : 0 < f.segments → f.segments + cond mark 1 0 ≤ f.tags
+  pub tags : e.path_tags + f.used.tags ≤ max_entries PathTags
+  pub words : e.path_data + f.used.words ≤ max_entries PathData
+  pub tagged : 0 < f.segments → f.segments + cond mark 1 0 ≤ f.used.tags
 
 -- what the Encoding stands for once a finished path's entries are in use
 abbrev pub joined : Encoding → Finished → Bool → Streams → Sheet
 joined e f mark m =
-    with_outlines (first (e.path_tags + f.tags) m.path_tags)
-    (record { words = first (e.path_data + f.words) m.path_data; paths = e.n_paths + cond mark 1 0; segments = e.n_path_segments + f.segments }) (sheet e m)
+    with_outlines (first (e.path_tags + f.used.tags) m.path_tags)
+    (record { words = first (e.path_data + f.used.words) m.path_data; paths = e.n_paths + cond mark 1 0; segments = e.n_path_segments + f.segments }) (sheet e m)

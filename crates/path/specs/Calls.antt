@@ -51,13 +51,13 @@ needs c a = answer (or_else Short (lacking (in_use a.path) a) None) (used_by (ca
 
 -- a finished path: the entries are its own, as many as it says, and each segment is a tag but for the path's
 abbrev pub finished_by : Bool → Path → Finished
-finished_by mark m = record { tags = length (finish mark m).own.tags; words = length (finish mark m).own.words; segments = length (leave m).own.tags }
+finished_by mark m = record { used = used_by (finish mark m); segments = length (leave m).own.tags }
 
 pub record Done (mark : Bool) (a : Lent) (f : Finished) (ts : List PathTag) (ws : List ℕ) : Type 0 where
   pub accepted : declined (Finish mark) a ≡ None
   pub says : f ≡ finished_by mark (view a)
-  pub tags : take f.tags ts ≡ (finish mark (view a)).own.tags
-  pub words : take f.words ws ≡ (finish mark (view a)).own.words
+  pub tags : take f.used.tags ts ≡ (finish mark (view a)).own.tags
+  pub words : take f.used.words ws ≡ (finish mark (view a)).own.words
 
 -- a declined finish gives the path back
 abbrev pub Ended : Bool → Lent → Result Finished (OpenPath × Declined) → List PathTag → List ℕ → Type 0

@@ -2,7 +2,7 @@
 use geometry::points::{Point, Segment};
 
 /// No subpath is open; one has its first point only; one has segments.
-#[derive(Clone, Copy)]
+#[derive(Clone, Copy, PartialEq, Eq, Debug)]
 pub enum PathState {
     Start,
     MoveTo,
@@ -10,7 +10,7 @@ pub enum PathState {
 }
 
 /// A call that draws.
-#[derive(Clone, Copy)]
+#[derive(Clone, Copy, PartialEq, Eq, Debug)]
 pub enum Step {
     Move(Point),
     Draw(Segment),
@@ -18,37 +18,36 @@ pub enum Step {
 }
 
 /// A call on an open path: a step is taken, or the path is finished and its tag perhaps written.
-#[derive(Clone, Copy)]
+#[derive(Clone, Copy, PartialEq, Eq, Debug)]
 pub enum Call {
     Take(Step),
     Finish(bool),
 }
 
 /// The two streams that a path is written to, the lower first.
-#[derive(Clone, Copy)]
+#[derive(Clone, Copy, PartialEq, Eq, Debug)]
 pub enum Stream {
     PathTags,
     PathData,
 }
 
 /// Why a call was declined: a stream shorter than the entries in use, or with no space for what the call leaves.
-#[derive(Clone, Copy)]
+#[derive(Clone, Copy, PartialEq, Eq, Debug)]
 pub enum Declined {
     Short(Stream),
     Full(Stream),
 }
 
 /// How many entries of the two streams are in use.
-#[derive(Clone, Copy)]
+#[derive(Clone, Copy, PartialEq, Eq, Debug)]
 pub struct Used {
     pub tags: usize,
     pub words: usize,
 }
 
 /// What a finished path has in use, and the segments that it counted.
-#[derive(Clone, Copy)]
+#[derive(Clone, Copy, PartialEq, Eq, Debug)]
 pub struct Finished {
-    pub tags: usize,
-    pub words: usize,
+    pub used: Used,
     pub segments: usize,
 }

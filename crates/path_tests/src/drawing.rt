@@ -49,10 +49,7 @@ pub fn make(
             Ok(path.used())
         }
         Call::Finish(insert_path_marker) => match path.try_finish(tags, words, insert_path_marker) {
-            Ok(f) => Ok(Used {
-                tags: f.tags,
-                words: f.words,
-            }),
+            Ok(f) => Ok(f.used),
             Err(back) => {
                 let (_, d) = back;
                 Err(d)

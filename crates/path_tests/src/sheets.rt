@@ -40,8 +40,8 @@ fn finished(
     let Ok(f) = path.try_finish(&mut own_tags, &mut own_words, insert_path_marker) else {
         return Err(Fail::new("declined"));
     };
-    assert!(rt; tags_are(&own_tags, f.tags, tags));
-    assert!(rt; words_are(&own_words, f.words, words));
+    assert!(rt; tags_are(&own_tags, f.used.tags, tags));
+    assert!(rt; words_are(&own_words, f.used.words, words));
     assert!(rt; f.segments == segments);
     Ok(())
 }

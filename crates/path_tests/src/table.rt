@@ -365,11 +365,7 @@ fn check_row(rt: &impl Abort, row: Row) -> Result<(), Fail> {
     let Ok(f) = path.try_finish(&mut own_tags, &mut own_words, insert_path_marker) else {
         return Err(Fail::new("declined"));
     };
-    let used = Used {
-        tags: f.tags,
-        words: f.words,
-    };
-    assert!(rt; entries_are(&own_tags, &own_words, used, ended_tags, ended_words));
+    assert!(rt; entries_are(&own_tags, &own_words, f.used, ended_tags, ended_words));
     Ok(())
 }
 

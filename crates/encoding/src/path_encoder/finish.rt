@@ -22,8 +22,8 @@ fn join(mut encoding: Encoding, finished: Finished, insert_path_marker: bool) ->
         return (encoding, 0);
     }
     let count = finished.segments as u32;
-    encoding.path_tags += finished.tags;
-    encoding.path_data += finished.words;
+    encoding.path_tags += finished.used.tags;
+    encoding.path_data += finished.used.words;
     encoding.n_path_segments += count;
     encoding.n_paths += insert_path_marker as u32;
     (encoding, count)

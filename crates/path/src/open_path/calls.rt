@@ -70,10 +70,8 @@ impl OpenPath {
             return Err((self, d));
         }
         let segments = self.finish(tags, words, insert_path_marker);
-        let used = self.used();
         Ok(Finished {
-            tags: used.tags,
-            words: used.words,
+            used: self.used(),
             segments,
         })
     }

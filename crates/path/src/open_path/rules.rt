@@ -7,7 +7,7 @@ ghost use Rattle.path.specs.View.{lent, view, Ready, Does};
 use crate::entries::{Written, end_last, end_path, last_point, write_point, write_tag};
 use crate::open_path::OpenPath;
 use crate::state::PathState;
-use geometry::curves::{Curve, Line, Quad, is_same_point};
+use geometry::curves::{Curve, Line, Quad};
 use geometry::points::Point;
 use monoid::path::PathTag;
 
@@ -40,11 +40,10 @@ impl OpenPath {
         requires point { 2 ≤ self.old.words }
         ensures { Does join (lent self.old tags.old words.old) (lent self.new tags.new words.new) }
     {
-        let first = self.first_point;
-        if is_same_point(last_point(words, self.words), first) {
+        if last_point(words, self.words) == self.first_point {
             return;
         }
-        self.write(tags, words, Line(first));
+        self.write(tags, words, Line(self.first_point));
     }
 
     // Draws the first segment of a subpath, which needs a tangent.
@@ -97,8 +96,7 @@ impl OpenPath {
         requires drawn { self.old.state ≡ NonemptySubpath }
         ensures { Does (put_marker is_closed) (lent self.old tags.old words.old) (lent self.new tags.new words.new) }
     {
-        let first = self.first_point;
-        let tangent_end = self.first_start_tangent_end;
+        let (first, tangent_end) = (self.first_point, self.first_start_tangent_end);
         if is_closed {
             self.put(tags, words, Line(tangent_end));
         } else {

@@ -31,11 +31,11 @@ pub trait PathStep: Taken {}
 impl<S: Taken> PathStep for S {}
 
 /// A move to a point.
-#[derive(Clone, Copy)]
+#[derive(Clone, Copy, PartialEq, Eq, Debug)]
 pub struct Move(pub Point);
 
 /// A close.
-#[derive(Clone, Copy)]
+#[derive(Clone, Copy, PartialEq, Eq, Debug)]
 pub struct Close;
 
 impl Taken for Move {
