@@ -1,5 +1,5 @@
 -- What each rule is in each case.
-use Rattle.std.proofs.Common.{◌≡◌, Bool, true, false, cond, Option, refl, ap, ◌∙◌}
+use Rattle.std.proofs.Common.{◌≡◌, Bool, true, false, cond, ◌≢◌, Option, refl, ap, ◌∙◌}
 use Rattle.geometry.specs.declared.points.Point.{Point}
 use Rattle.geometry.specs.declared.points.Segment.{Segment}
 use Rattle.geometry.specs.declared.points.Segment.TheVariants.{Line}
@@ -7,7 +7,7 @@ use Rattle.geometry.specs.Segments.{tangent_end, too_short, same_point, end_poin
 use Rattle.path.specs.declared.state.PathState.{PathState}
 use Rattle.path.specs.declared.state.PathState.TheVariants.{Start, MoveTo, NonemptySubpath}
 use Rattle.path.specs.Entries.{last_point}
-use Rattle.path.specs.Rules.{Path, write, put, join, close, close_in, leave, leave_in, move_to, put_first, draw, draw_in, segment_to, segment_in}
+use Rattle.path.specs.Rules.{Path, write, put, join, mark_end, put_marker, close, close_in, leave, leave_in, move_to, put_first, draw, draw_in, segment_to, segment_in}
 
 pub put-short : (s : Segment) (m : Path) → too_short (last_point m.own.words) s ≡ true → put s m ≡ m
 unfolding put
@@ -29,6 +29,12 @@ pub close_at : (z : PathState) (m : Path) → m.state ≡ z → close m ≡ clos
 unfolding close
 close_at z m h = ap (λ s. close_in s m) h
 
+pub close-fill : (m : Path) → m.state ≡ NonemptySubpath → m.fill ≡ true → close m ≡ mark_end (join m)
+close-fill m h f = close_at NonemptySubpath m h ∙ ap (λ b. mark_end (cond b (join m) (put_marker true (join m)))) f
+
+pub close-stroke : (m : Path) → m.state ≡ NonemptySubpath → m.fill ≡ false → close m ≡ mark_end (put_marker true (join m))
+close-stroke m h f = close_at NonemptySubpath m h ∙ ap (λ b. mark_end (cond b (join m) (put_marker true (join m)))) f
+
 pub leave-fill : (m : Path) → m.fill ≡ true → leave m ≡ close m
 unfolding leave
 leave-fill m f = ap (λ b. cond b (close m) (leave_in m.state m)) f
@@ -47,6 +53,14 @@ draw-at z s m h = ap (λ x. draw_in x s m) h
 pub draw-first : (s : Segment) (m : Path) (o : Option Point) → m.state ≡ MoveTo → tangent_end m.first s ≡ o → draw s m ≡ put_first o s m
 draw-first s m o h e = draw-at MoveTo s m h ∙ ap (λ x. put_first x s m) e
 
+later : (z : PathState) (s : Segment) (m : Path) → z ≢ Start → z ≢ MoveTo → draw_in z s m ≡ put s m
+later Start s m h k = absurd (h refl)
+later MoveTo s m h k = absurd (k refl)
+later NonemptySubpath s m h k = refl
+
+pub draw_later : (s : Segment) (m : Path) → m.state ≢ Start → m.state ≢ MoveTo → draw s m ≡ put s m
+draw_later s m h k = draw-at m.state s m refl ∙ later m.state s m h k
+
 pub segment-at : (z : PathState) (s : Segment) (m : Path) → m.state ≡ z → segment_to s m ≡ segment_in z s m
 unfolding segment_to
 segment-at z s m h = ap (λ x. segment_in x s m) h
@@ -57,12 +71,20 @@ segment_again s m h f = segment-at Start s m h ∙ ap (λ b. cond b (draw s (mov
 pub segment-first : (s : Segment) (m : Path) → m.state ≡ Start → m.moved ≡ false → segment_to s m ≡ move_to (end_point s) m
 segment-first s m h f = segment-at Start s m h ∙ ap (λ b. cond b (draw s (move_to m.first m)) (move_to (end_point s) m)) f
 
+begun : (z : PathState) (s : Segment) (m : Path) → z ≢ Start → segment_in z s m ≡ draw s m
+begun Start s m h = absurd (h refl)
+begun MoveTo s m h = refl
+begun NonemptySubpath s m h = refl
+
+pub segment_begun : (s : Segment) (m : Path) → m.state ≢ Start → segment_to s m ≡ draw s m
+segment_begun s m h = segment-at m.state s m refl ∙ begun m.state s m h
+
 -- in an open subpath a segment call keeps or drops its segment, and nothing more
 pub segment_open : (s : Segment) (m : Path) → m.state ≡ NonemptySubpath → segment_to s m ≡ put s m
 segment_open s m h = segment-at NonemptySubpath s m h ∙ draw-at NonemptySubpath s m h
 
 -- an open subpath stays open
-pub either_state : (b : Bool) (m n : Path) (z : PathState) → m.state ≡ z → n.state ≡ z → (cond b m n).state ≡ z
+either_state : (b : Bool) (m n : Path) (z : PathState) → m.state ≡ z → n.state ≡ z → (cond b m n).state ≡ z
 either_state true m n z h k = h
 either_state false m n z h k = k
 

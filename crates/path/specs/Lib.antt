@@ -3,6 +3,7 @@ pub mod States
 pub mod Entries
 pub mod Rules
 pub mod View
+pub mod Opening
 pub mod Space
 pub mod Calls
 pub mod Subpaths

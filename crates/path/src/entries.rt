@@ -3,7 +3,7 @@ ghost use Rattle.std.specs.Prelude.{◌≡◌, ◌+◌, ◌-◌, ◌<◌, ◌≤
 ghost use Rattle.path.specs.Entries.{point_words, segment_words, tag_of, end_last, finished, last_point};
 
 use geometry::curves::{Cubic, Curve, Line, Quad};
-use geometry::points::{Point, Segment};
+use geometry::points::Point;
 use monoid::path::PathTag;
 
 // Writes a point after the first `at` words, and says how many are used then.
@@ -19,10 +19,6 @@ pub(crate) fn write_point(words: &mut [u32], at: usize, p: Point) -> usize
 
 // A segment by what is written of it.
 pub(crate) trait Written: Curve {
-    // The segment.
-    fn segment(self) -> Segment
-        ensures { result ≡ Self.Curve.segment self };
-
     // Its tag.
     fn tag(self) -> PathTag
         ensures { result ≡ tag_of (Self.Curve.segment self) };
@@ -35,10 +31,6 @@ pub(crate) trait Written: Curve {
 }
 
 impl Written for Line {
-    fn segment(self) -> Segment {
-        Segment::Line(self.0)
-    }
-
     fn tag(self) -> PathTag {
         PathTag::LINE_TO_F32
     }
@@ -50,10 +42,6 @@ impl Written for Line {
 }
 
 impl Written for Quad {
-    fn segment(self) -> Segment {
-        Segment::Quad(self.0, self.1)
-    }
-
     fn tag(self) -> PathTag {
         PathTag::QUAD_TO_F32
     }
@@ -66,10 +54,6 @@ impl Written for Quad {
 }
 
 impl Written for Cubic {
-    fn segment(self) -> Segment {
-        Segment::Cubic(self.0, self.1, self.2)
-    }
-
     fn tag(self) -> PathTag {
         PathTag::CUBIC_TO_F32
     }

@@ -6,7 +6,7 @@ use crate::state::PathState;
 use geometry::points::Point;
 
 mod calls;
-mod rules;
+mod cycle;
 mod space;
 mod steps;
 

@@ -1,12 +1,12 @@
 // Steps on an open path as types of their own, so that what is generic over them is compiled for each.
 ghost use Rattle.std.specs.Prelude.{◌≡◌};
+ghost use Rattle.geometry.specs.declared.points.Segment.TheVariants as Of;
 ghost use Rattle.path.specs.declared.state.Step.{Step};
 ghost use Rattle.path.specs.declared.state.Step.TheVariants as Took;
 ghost use Rattle.path.specs.declared.state.Call.TheVariants.{Take};
 ghost use Rattle.path.specs.Rules.{step as step-rule};
 ghost use Rattle.path.specs.View.{lent, Ready, Does};
 
-use crate::entries::Written;
 use crate::open_path::OpenPath;
 use crate::state::{Call, Step};
 use geometry::curves::{Cubic, Line, Quad};
@@ -50,16 +50,40 @@ impl Taken for Move {
     }
 }
 
-impl<C: Written> Taken for C {
-    ghost step = { λ s. Took.Draw (C.Curve.segment s) };
+impl Taken for Line {
+    ghost step = { λ s. Took.Draw (Of.Line s.0) };
 
     fn call(self) -> Call {
-        Call::Take(Step::Draw(self.segment()))
+        Call::Take(Step::Draw(Segment::Line(self.0)))
     }
 
     #[inline(always)]
     fn take(self, path: &mut OpenPath, tags: &mut [PathTag], words: &mut [u32]) {
-        path.segment_to(tags, words, self);
+        path.line_on(tags, words, self.0);
+    }
+}
+
+impl Taken for Quad {
+    ghost step = { λ s. Took.Draw (Of.Quad s.0 s.1) };
+
+    fn call(self) -> Call {
+        Call::Take(Step::Draw(Segment::Quad(self.0, self.1)))
+    }
+
+    fn take(self, path: &mut OpenPath, tags: &mut [PathTag], words: &mut [u32]) {
+        path.quad_to(tags, words, self.0, self.1);
+    }
+}
+
+impl Taken for Cubic {
+    ghost step = { λ s. Took.Draw (Of.Cubic s.0 s.1 s.2) };
+
+    fn call(self) -> Call {
+        Call::Take(Step::Draw(Segment::Cubic(self.0, self.1, self.2)))
+    }
+
+    fn take(self, path: &mut OpenPath, tags: &mut [PathTag], words: &mut [u32]) {
+        path.cubic_to(tags, words, self.0, self.1, self.2);
     }
 }
 

@@ -1,13 +1,16 @@
-// An open path that has space for it follows the rules.
-ghost use Rattle.std.specs.Prelude.{◌≡◌, ◌≤◌, length};
-ghost use Rattle.path.specs.declared.state.PathState.TheVariants.{MoveTo, NonemptySubpath};
+// The calls on an open path that has space for them. `move_to`, `line_to`, `quad_to` and `close` call one another, as a
+// marker is drawn by the calls that draw. Calls of a cycle have the same type parameters, so each kind has its own.
+ghost use Rattle.std.specs.Prelude.{◌≡◌, ◌≤◌, false, ◌≢◌, length};
+ghost use Rattle.geometry.specs.declared.points.Segment.TheVariants as Of;
+ghost use Rattle.path.specs.declared.state.PathState.TheVariants.{Start, MoveTo, NonemptySubpath};
 ghost use Rattle.path.specs.Rules.{write, put, join, draw, begin, drop_move, mark_end, put_marker, close as close_rule, leave, move_to, segment_to, finish as finish_rule};
+ghost use Rattle.path.specs.Opening.{draws, opened};
 ghost use Rattle.path.specs.View.{lent, view, Ready, Does};
 
 use crate::entries::{Written, end_last, end_path, last_point, write_point, write_tag};
 use crate::open_path::OpenPath;
 use crate::state::PathState;
-use geometry::curves::{Curve, Line, Quad};
+use geometry::curves::{Cubic, Curve, Line, Quad};
 use geometry::points::Point;
 use monoid::path::PathTag;
 
@@ -46,17 +49,22 @@ impl OpenPath {
         self.write(tags, words, Line(self.first_point));
     }
 
-    // Draws the first segment of a subpath, which needs a tangent.
-    fn draw_first<C: Written>(&mut self, tags: &mut [PathTag], words: &mut [u32], s: C)
+    // Draws a segment in a subpath: the first needs a tangent.
+    fn draw<C: Written>(&mut self, tags: &mut [PathTag], words: &mut [u32], s: C)
         requires ready { Ready (draw (C.Curve.segment s)) (lent self.old tags.old words.old) }
-        requires moved { self.old.state ≡ MoveTo }
+        requires begun { self.old.state ≢ Start }
         ensures { Does (draw (C.Curve.segment s)) (lent self.old tags.old words.old) (lent self.new tags.new words.new) }
     {
-        let Some(t) = s.tangent_end(self.first_point) else {
-            return;
-        };
-        self.first_start_tangent_end = t;
-        self.put(tags, words, s);
+        match self.state {
+            PathState::MoveTo => {
+                let Some(t) = s.tangent_end(self.first_point) else {
+                    return;
+                };
+                self.first_start_tangent_end = t;
+                self.put(tags, words, s);
+            }
+            _ => self.put(tags, words, s),
+        }
     }
 
     // Begins a subpath.
@@ -90,21 +98,8 @@ impl OpenPath {
         self.state = PathState::Start;
     }
 
-    // Marks the end of a stroke's subpath, which is closed or open.
-    fn insert_marker(&mut self, tags: &mut [PathTag], words: &mut [u32], is_closed: bool)
-        requires ready { Ready (put_marker is_closed) (lent self.old tags.old words.old) }
-        requires drawn { self.old.state ≡ NonemptySubpath }
-        ensures { Does (put_marker is_closed) (lent self.old tags.old words.old) (lent self.new tags.new words.new) }
-    {
-        let (first, tangent_end) = (self.first_point, self.first_start_tangent_end);
-        if is_closed {
-            self.put(tags, words, Line(tangent_end));
-        } else {
-            self.put(tags, words, Quad(first, tangent_end));
-        }
-    }
-
     // Closes the subpath.
+    #[cycle(path_calls)]
     pub(super) fn close(&mut self, tags: &mut [PathTag], words: &mut [u32])
         requires { Ready close_rule (lent self.old tags.old words.old) }
         ensures { Does close_rule (lent self.old tags.old words.old) (lent self.new tags.new words.new) }
@@ -113,16 +108,37 @@ impl OpenPath {
             PathState::Start => {}
             PathState::MoveTo => self.drop_move(tags, words),
             PathState::NonemptySubpath => {
+                let is_fill = self.is_fill;
                 self.join_first(tags, words);
-                if !self.is_fill {
+                if is_fill {
+                    self.mark_end(tags, words);
+                } else {
                     self.insert_marker(tags, words, true);
+                    self.mark_end(tags, words);
                 }
-                self.mark_end(tags, words);
             }
         }
     }
 
+    // Marks the end of a stroke's subpath, which is closed or open.
+    #[cycle(path_calls)]
+    fn insert_marker(&mut self, tags: &mut [PathTag], words: &mut [u32], is_closed: bool)
+        requires ready { Ready (put_marker is_closed) (lent self.old tags.old words.old) }
+        requires stroke { self.old.is_fill ≡ false }
+        requires drawn { self.old.state ≡ NonemptySubpath }
+        ensures { Does (put_marker is_closed) (lent self.old tags.old words.old) (lent self.new tags.new words.new) }
+    {
+        let tangent_end = self.first_start_tangent_end;
+        if is_closed {
+            self.line_to(tags, words, tangent_end);
+        } else {
+            let first = self.first_point;
+            self.quad_to(tags, words, first, tangent_end);
+        }
+    }
+
     // Leaves the subpath: a fill closes it, and a stroke marks it as open.
+    #[cycle(path_calls)]
     fn leave(&mut self, tags: &mut [PathTag], words: &mut [u32])
         requires { Ready leave (lent self.old tags.old words.old) }
         ensures { Does leave (lent self.old tags.old words.old) (lent self.new tags.new words.new) }
@@ -142,6 +158,7 @@ impl OpenPath {
     }
 
     // Begins another subpath.
+    #[cycle(path_calls)]
     pub(super) fn move_to(&mut self, tags: &mut [PathTag], words: &mut [u32], p: Point)
         requires { Ready (move_to p) (lent self.old tags.old words.old) }
         ensures { Does (move_to p) (lent self.old tags.old words.old) (lent self.new tags.new words.new) }
@@ -150,23 +167,76 @@ impl OpenPath {
         self.begin(tags, words, p);
     }
 
-    // Draws a segment, at once where it goes on from others: the common case.
-    #[inline(always)]
-    pub(super) fn segment_to<C: Written>(&mut self, tags: &mut [PathTag], words: &mut [u32], s: C)
-        requires { Ready (segment_to (C.Curve.segment s)) (lent self.old tags.old words.old) }
-        ensures { Does (segment_to (C.Curve.segment s)) (lent self.old tags.old words.old) (lent self.new tags.new words.new) }
+    // Sees that a subpath is open for a segment to `end`: false if the segment is a move.
+    #[cycle(path_calls)]
+    fn open_subpath(&mut self, tags: &mut [PathTag], words: &mut [u32], end: Point) -> bool
+        requires { Ready (opened end) (lent self.old tags.old words.old) }
+        ensures draws { result ≡ draws (view (lent self.old tags.old words.old)) }
+        ensures does { Does (opened end) (lent self.old tags.old words.old) (lent self.new tags.new words.new) }
     {
         match self.state {
-            PathState::NonemptySubpath => self.put(tags, words, s),
-            PathState::MoveTo => self.draw_first(tags, words, s),
             PathState::Start => {
                 if self.moved {
-                    self.move_to(tags, words, self.first_point);
-                    self.draw_first(tags, words, s);
+                    let first = self.first_point;
+                    self.move_to(tags, words, first);
+                    true
                 } else {
-                    self.move_to(tags, words, s.end_point());
+                    self.move_to(tags, words, end);
+                    false
                 }
             }
+            _ => true,
+        }
+    }
+
+    // Draws a line.
+    #[cycle(path_calls)]
+    pub(super) fn line_to(&mut self, tags: &mut [PathTag], words: &mut [u32], p: Point)
+        requires { Ready (segment_to (Of.Line p)) (lent self.old tags.old words.old) }
+        ensures { Does (segment_to (Of.Line p)) (lent self.old tags.old words.old) (lent self.new tags.new words.new) }
+    {
+        if self.open_subpath(tags, words, p) {
+            self.draw(tags, words, Line(p));
+        }
+    }
+
+    // Draws a line, and at once where it goes on from segments: the common case.
+    #[inline(always)]
+    pub(super) fn line_on(&mut self, tags: &mut [PathTag], words: &mut [u32], p: Point)
+        requires { Ready (segment_to (Of.Line p)) (lent self.old tags.old words.old) }
+        ensures { Does (segment_to (Of.Line p)) (lent self.old tags.old words.old) (lent self.new tags.new words.new) }
+    {
+        match self.state {
+            PathState::NonemptySubpath => self.put(tags, words, Line(p)),
+            _ => self.line_to(tags, words, p),
+        }
+    }
+
+    // Draws a quadratic.
+    #[cycle(path_calls)]
+    pub(super) fn quad_to(&mut self, tags: &mut [PathTag], words: &mut [u32], p: Point, q: Point)
+        requires { Ready (segment_to (Of.Quad p q)) (lent self.old tags.old words.old) }
+        ensures { Does (segment_to (Of.Quad p q)) (lent self.old tags.old words.old) (lent self.new tags.new words.new) }
+    {
+        if self.open_subpath(tags, words, q) {
+            self.draw(tags, words, Quad(p, q));
+        }
+    }
+
+    // Draws a cubic.
+    pub(super) fn cubic_to(
+        &mut self,
+        tags: &mut [PathTag],
+        words: &mut [u32],
+        p: Point,
+        q: Point,
+        r: Point,
+    )
+        requires { Ready (segment_to (Of.Cubic p q r)) (lent self.old tags.old words.old) }
+        ensures { Does (segment_to (Of.Cubic p q r)) (lent self.old tags.old words.old) (lent self.new tags.new words.new) }
+    {
+        if self.open_subpath(tags, words, r) {
+            self.draw(tags, words, Cubic(p, q, r));
         }
     }
 
