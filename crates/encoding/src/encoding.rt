@@ -44,7 +44,7 @@ pub(crate) struct Written {
 }
 
 /// The used lengths of the six streams.
-#[derive(Clone, Copy)]
+#[derive(Clone, Copy, Debug, PartialEq, Eq)]
 pub struct StreamOffsets {
     pub path_tags: usize,
     pub path_data: usize,
@@ -55,7 +55,7 @@ pub struct StreamOffsets {
 }
 
 /// The four counts, and the flags.
-#[derive(Clone, Copy)]
+#[derive(Clone, Copy, Debug, PartialEq, Eq)]
 pub struct Counts {
     pub n_paths: u32,
     pub n_path_segments: u32,
