@@ -1,10 +1,6 @@
 -- A list of calls that was replayed to its end is a plan that was drawn. Assumes nothing.
-use Rattle.std.proofs.Common.{◌≡◌, ℕ, min, List, ◌∷◌, map, reverse, length, take, vec_items, sym, refl, ap, ◌∙◌, subst, arith}
+use Rattle.std.proofs.Common.{◌≡◌, min, List, ◌∷◌, map, reverse, length, take, vec_items, sym, refl, ap, ◌∙◌, subst, arith}
 use Rattle.std.proofs.lemmas.List.{take_all}
-use Rattle.monoid.specs.declared.path.PathTag.{PathTag}
-use Rattle.monoid.specs.declared.draw.DrawTag.{DrawTag}
-use Rattle.values.specs.declared.transform.Transform.{Transform}
-use Rattle.values.specs.declared.style.Style.{Style}
 use Rattle.encoding.specs.declared.encoding.Encoding.{Encoding}
 use Rattle.encoding.specs.Sheet.{Streams, sheet}
 use Rattle.replay.specs.declared.calls.Answer.{Answer}
@@ -17,7 +13,7 @@ use Rattle.replay.specs.Calls.Call.{Abandon}
 use Rattle.replay.specs.Runs.{Run, RunsShow}
 use Rattle.replay.specs.Runs.Run.{accepted}
 use Rattle.replay.specs.Wanted.{Whole}
-use Rattle.replay.specs.Meant.{meant, six, Ran, Replayed}
+use Rattle.replay.specs.Meant.{meant, Ran, Replayed}
 use Rattle.drafting.specs.declared.drawing.Drawn.{Drawn}
 use Rattle.drafting.specs.Drawing.{streams_of, all_made, Left, DrawnAs}
 
@@ -45,6 +41,3 @@ module _ (cs : List Value.Call) (d : Drawn) (was answers : List Answer) (h : Pla
       let ran : Ran cs (vec_items d.answers) h (streams_of d) =
       subst (λ (xs : List Answer). Ran cs xs h (streams_of d)) (sym a) (subst (λ (x : Streams). Ran cs answers h x) (sym s) (all_ran cs was answers h m p q r)) in
       record { plan = h; ran = ran; left = l; shows = all_shown always ran.made h (streams_of d) d.encoding ran.run l }
-
-pub six_alike : {a a' : List PathTag} {b b' : List ℕ} {c c' : List DrawTag} {d d' : List ℕ} {e e' : List Transform} {f f' : List Style} → a ≡ a' → b ≡ b' → c ≡ c' → d ≡ d' → e ≡ e' → f ≡ f' → six a b c d e f ≡ six a' b' c' d' e' f'
-six_alike p q r s t u = cc

@@ -13,7 +13,7 @@ use Rattle.replay.specs.Calls.Call.{Abandon}
 use Rattle.replay.specs.Wanted.{Whole}
 use Rattle.replay.specs.Meant.{six, Ran}
 use Rattle.drafting.specs.declared.drawing.Drawn.{Drawn}
-use Rattle.drafting.specs.declared.room.Room.{Room}
+use Rattle.encoding.specs.declared.encoding.StreamOffsets.{StreamOffsets}
 
 abbrev pub streams_of : Drawn → Streams
 streams_of d = six (vec_items d.path_tags) (vec_items d.path_data) (vec_items d.draw_tags) (vec_items d.draw_data) (vec_items d.transforms) (vec_items d.styles)
@@ -37,7 +37,7 @@ pub record DrawnAs (cs : List Call) (d : Drawn) : Type 0 where
   pub shows : Whole (all_made plan ran.made) (sheet d.encoding (streams_of d))
 
 -- each stream has as many entries, used ones and free ones, as there was room asked for
-pub record HasRoom (r : Room) (d : Drawn) : Type 0 where
+pub record HasRoom (r : StreamOffsets) (d : Drawn) : Type 0 where
   pub path_tags : length (vec_items d.path_tags) ≡ r.path_tags
   pub path_data : length (vec_items d.path_data) ≡ r.path_data
   pub draw_tags : length (vec_items d.draw_tags) ≡ r.draw_tags

@@ -1,7 +1,9 @@
 -- What is read from streams that show a log is the log. Assumes nothing.
 use Rattle.std.proofs.Common.{◌≡◌, ℕ, zero, suc, ◌+◌, ◌<◌, ◌≤◌, true, List, [], ◌∷◌, ◌++◌, map, length, get_or, take, drop, Some, sym, refl, ap, ◌∙◌, subst, arith, length-drop, length-take}
 use Rattle.std.specs.List.{slice_get}
+use Rattle.std.specs.Option.{option_map}
 use Rattle.std.proofs.lemmas.List.{drop_more, take-append-drop}
+use Rattle.std.proofs.lemmas.Option.{slice_get-map, slice_get_within, get_or_from_slice_get}
 use Rattle.monoid.specs.declared.path.PathTag.{PathTag}
 use Rattle.monoid.specs.declared.draw.DrawTag.{DrawTag}
 use Rattle.monoid.specs.PathTags.{Counts, is_segment}
@@ -50,9 +52,9 @@ module _ (ts : List PathTag) (ws : List ℕ) (tr : List Transform) (st : List St
 
 -- the tag of an entry, at its place
 tag_at : (xs : List Entry) (k : ℕ) (x : Entry) (e : DrawTag) → slice_get xs k ≡ Some x → (k < length (map (λ (y : Entry). y.tag) xs)) × (get_or (map (λ (y : Entry). y.tag) xs) k e ≡ x.tag)
-tag_at [] k x e h = let z : ◌≡◌ {A = ℕ} 0 1 = cc in absurd (omega arith)
-tag_at (y ∷ xs) zero x e h = let same : y ≡ x = cc in (omega arith, ap (λ (z : Entry). z.tag) same)
-tag_at (y ∷ xs) (suc k) x e h = let r = tag_at xs k x e h in (omega (arith, r.0), r.1)
+tag_at xs k x e h =
+    let at : slice_get (map (λ (y : Entry). y.tag) xs) k ≡ Some x.tag = slice_get-map (λ (y : Entry). y.tag) xs k ∙ ap (option_map (λ (y : Entry). y.tag)) h in
+    (slice_get_within (map (λ (y : Entry). y.tag) xs) k x.tag at, get_or_from_slice_get (map (λ (y : Entry). y.tag) xs) k x.tag e at)
 
 module _ (ts : List DrawTag) (ws : List ℕ) (was rows : List ShownCommand)
     (each : (k : ℕ) → k < length ts → k < length was → (d : ShownCommand) (e : DrawTag) → get_or rows k d ≡ command_at ws (drawn_total (take k ts)).words (get_or ts k e)) where

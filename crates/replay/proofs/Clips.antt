@@ -1,12 +1,14 @@
 -- The begins that are open after some draw tags, and where each stands. Assumes nothing.
-use Rattle.std.proofs.Common.{◌≡◌, ℕ, suc, ◌+◌, ◌<◌, ◌⊎◌, List, [], ◌∷◌, ◌++◌, length, drop, Some, sym, refl, ap, ◌∙◌, subst, inl, inr, arith, length-append, rules}
+use Rattle.std.proofs.Common.{◌≡◌, ℕ, ◌+◌, ◌<◌, ◌⊎◌, List, [], ◌∷◌, ◌++◌, length, drop, Some, sym, refl, ap, ◌∙◌, subst, inl, inr, arith, length-append, rules}
 use Rattle.std.specs.List.{slice_get}
+use Rattle.std.proofs.Math.Seq.{drop-append-add}
+use Rattle.std.proofs.lemmas.List.{drop-append-le}
 use Rattle.monoid.specs.declared.draw.DrawTag.{DrawTag}
 use Rattle.monoid.specs.Laws.{Laws}
 use Rattle.monoid.specs.Clips.{Bic, bic, still, after, from_tag}
 use Rattle.monoid.proofs.Reducing.{reduced-append, reduced-one}
 use Rattle.replay.specs.Wanted.{clipped, begin_tag, end-tag}
-use Rattle.replay.proofs.Lists.{nth_append, nth_snoc, nth_last, drop-append}
+use Rattle.replay.proofs.Lists.{nth_append, nth_snoc, nth_last}
 
 pub same-bic : {p q : Bic} → p.pops ≡ q.pops → p.pushes ≡ q.pushes → p ≡ q
 same-bic a b = λ i. record { pops = a i; pushes = b i }
@@ -44,7 +46,7 @@ pub stack-depth : (ds : List DrawTag) (bs : List ℕ) → Stack ds bs → clippe
 stack-depth ds bs h = h.depth
 
 after_snoc : (ds : List DrawTag) (d : DrawTag) (b : ℕ) → b < length ds → clipped (drop (b + 1) (ds ++ d ∷ [])) ≡ after (clipped (drop (b + 1) ds)) (from_tag d)
-after_snoc ds d b h = ap clipped (drop-append (b + 1) ds (d ∷ []) (omega arith)) ∙ clips_snoc (drop (b + 1) ds) d
+after_snoc ds d b h = ap clipped (drop-append-le (b + 1) ds (d ∷ []) (omega arith)) ∙ clips_snoc (drop (b + 1) ds) d
 
 module _ (ds : List DrawTag) (d : DrawTag) (a b : ℕ) (step : (k : ℕ) → after (bic 0 (k + a)) (from_tag d) ≡ bic 0 (k + b)) where
   depths-snoc : (n : ℕ) (bs : List ℕ) → Depths ds (n + a) bs → Depths (ds ++ d ∷ []) (n + b) bs
@@ -88,7 +90,7 @@ stack-begin ds bs h = record {
     record {
       place = omega (arith, length-append ds (begin_tag ∷ []));
       begin = nth_last ds begin_tag;
-      since = ap clipped (past ds);
+      since = ap clipped (drop-append-add ds (begin_tag ∷ []) 1);
     },
     depths-snoc ds begin_tag 0 1 (λ k. same-bic (omega arith) (omega arith)) 0 bs h.standing,
   );
@@ -97,10 +99,6 @@ stack-begin ds bs h = record {
     | inr p ↦ inl (inl p.0)
   ];
 }
-  where
-    past : (xs : List DrawTag) → drop (length xs + 1) (xs ++ begin_tag ∷ []) ≡ []
-    past [] = refl
-    past (x ∷ xs) = let e : suc (length xs) + 1 ≡ suc (length xs + 1) = omega arith in ap (λ k. drop k (x ∷ xs ++ begin_tag ∷ [])) e ∙ past xs
 
 pub stack-end : (ds : List DrawTag) (b : ℕ) (bs : List ℕ) → Stack ds (b ∷ bs) → Stack (ds ++ end-tag ∷ []) bs
 stack-end ds b bs h = record {

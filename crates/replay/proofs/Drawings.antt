@@ -1,20 +1,21 @@
 -- The draw commands of the log, one more at a time. Assumes nothing.
 use Rattle.std.proofs.Common.{◌≡◌, ℕ, zero, suc, ◌+◌, ◌-◌, ◌%◌, ◌<◌, ◌≤◌, List, [], ◌∷◌, ◌++◌, map, length, take, drop, Some, None, sym, refl, ap, ◌∙◌, subst, inl, inr, arith, length-append, length-drop}
 use Rattle.std.specs.List.{slice_get, flat_map}
-use Rattle.std.proofs.lemmas.List.{map-append, length-map, append-nil, append_assoc}
+use Rattle.std.proofs.lemmas.List.{length-map, map_push, flat_map_more, take_at, drop-append-le}
+use Rattle.std.proofs.Math.Seq.{drop-append-add}
 use Rattle.monoid.specs.declared.draw.DrawTag.{DrawTag}
 use Rattle.monoid.specs.Clips.{Bic, bic, from_tag}
 use Rattle.encoding.specs.Tags.{draw_tag}
 use Rattle.replay.specs.Log.{Entry, entry}
 use Rattle.replay.specs.Wanted.{clipped, begin_tag, end-tag, Meets, words_in, drawn_total}
-use Rattle.replay.proofs.Lists.{part_append, nth_append, nth_snoc, nth_last, drop-append, drop_past, take_front}
+use Rattle.replay.proofs.Lists.{part_append, nth_append, nth_snoc, nth_last}
 use Rattle.replay.proofs.Clips.{Stack, Among, Depths, stack-none, stack_plain, stack-begin, stack-end, apart}
 
 abbrev pub tags_of : List Entry → List DrawTag
 tags_of xs = map (λ (x : Entry). x.tag) xs
 
 pub tags_snoc : (xs : List Entry) (x : Entry) → tags_of (xs ++ x ∷ []) ≡ tags_of xs ++ x.tag ∷ []
-tags_snoc xs x = map-append (λ (y : Entry). y.tag) xs (x ∷ [])
+tags_snoc xs x = map_push (λ (y : Entry). y.tag) xs x
 
 length-tags : (xs : List Entry) → length (tags_of xs) ≡ length xs
 length-tags xs = length-map xs (λ (y : Entry). y.tag)
@@ -48,8 +49,8 @@ ends_on ds d x k l h = (h.0, h.1, meets-up ds d h.0 k l h.2, λ i m. h.3 i (meet
 -- the tags from i to the end are those between i and a tag that comes next
 next_between : (ds : List DrawTag) (d : DrawTag) (i : ℕ) → i < length ds → take (length ds - (i + 1)) (drop (i + 1) (ds ++ d ∷ [])) ≡ drop (i + 1) ds
 next_between ds d i l =
-    ap (take (length ds - (i + 1))) (drop-append (i + 1) ds (d ∷ []) (omega arith))
-    ∙ take_front (drop (i + 1) ds) (d ∷ []) (length ds - (i + 1)) (sym (length-drop (i + 1) ds))
+    ap (take (length ds - (i + 1))) (drop-append-le (i + 1) ds (d ∷ []) (omega arith))
+    ∙ take_at (drop (i + 1) ds) (d ∷ []) (length ds - (i + 1)) (length-drop (i + 1) ds)
 
 among_deep : (ds : List DrawTag) (i n : ℕ) (bs : List ℕ) → Depths ds n bs → Among i bs → (m : ℕ) × (n ≤ m) × (clipped (drop (i + 1) ds) ≡ bic 0 m)
 among_deep ds i n [] h a = absurd a
@@ -148,15 +149,14 @@ pub words-at : (xs : List Entry) (k : ℕ) (x : Entry) → Sized xs → slice_ge
 words-at [] k x s h = let bad : ◌≡◌ {A = ℕ} 0 1 = cc in absurd (omega arith)
 words-at (y ∷ xs) zero x s h =
     let e : y ≡ x = cc in
-    subst (λ (z : Entry). (length z.words ≡ words_in z.tag) × (take (length z.words) (y.words ++ words_of xs) ≡ z.words)) e (s.0, take_front y.words (words_of xs) (length y.words) refl)
+    subst (λ (z : Entry). (length z.words ≡ words_in z.tag) × (take (length z.words) (y.words ++ words_of xs) ≡ z.words)) e (s.0, take_at y.words (words_of xs) (length y.words) refl)
 words-at (y ∷ xs) (suc k) x s h =
     let r = words-at xs k x s.1 h in
     let n = (drawn_total (take k (tags_of xs))).words in
-    (r.0, ap (take (length x.words)) (ap (λ j. drop (j + n) (y.words ++ words_of xs)) (sym s.0) ∙ drop_past y.words (words_of xs) n) ∙ r.1)
+    (r.0, ap (take (length x.words)) (ap (λ j. drop (j + n) (y.words ++ words_of xs)) (sym s.0) ∙ drop-append-add y.words (words_of xs) n) ∙ r.1)
 
 pub words_snoc : (xs : List Entry) (y : Entry) → words_of (xs ++ y ∷ []) ≡ words_of xs ++ y.words
-words_snoc [] y = append-nil y.words
-words_snoc (x ∷ xs) y = ap (λ l. x.words ++ l) (words_snoc xs y) ∙ sym (append_assoc x.words (words_of xs) y.words)
+words_snoc xs y = sym (flat_map_more (λ (x : Entry). x.words) [] xs y)
 
 pub clips-total : (ds : List DrawTag) (d : DrawTag) → (drawn_total (ds ++ d ∷ [])).clips ≡ (drawn_total ds).clips + d.0 % 2
 clips-total [] d = omega arith

@@ -3,6 +3,7 @@ use Rattle.std.proofs.Common.{◌≡◌, ℕ, ◌+◌, ◌*◌, ◌/◌, ◌<◌
 use lib.Ieee.{Float, binary32, fits, of_bits, to_bits}
 use lib.Ieee.Bits.{of_bits-to_bits}
 use Rattle.std.specs.Float.{float_is_finite}
+use Rattle.std.proofs.Math.Seq.{drop-append-add}
 use Rattle.std.proofs.lemmas.List.{append-nil}
 use Rattle.std.proofs.lemmas.Bool.{eqb-true, and_parts, or_parts, not-false}
 use Rattle.geometry.specs.Numbers.{same_number}
@@ -26,7 +27,7 @@ use Rattle.replay.specs.Calls.{Chosen}
 use Rattle.replay.specs.Calls.Chosen.{Filled, Stroked}
 use Rattle.replay.specs.Log.{Segment, styled}
 use Rattle.replay.specs.Wanted.{StyleOf, StyledAs, MovedAs, last_counted}
-use Rattle.replay.proofs.Lists.{counted_last, last_snoc, drop_past}
+use Rattle.replay.proofs.Lists.{counted_last, last_snoc}
 use Rattle.replay.proofs.Shown.{Store, total, grown, Reads, reads_++, reads-grown, Around}
 use Rattle.replay.proofs.Pieces.{AllGood, reads-pieces}
 
@@ -118,7 +119,7 @@ module _ (ts : List PathTag) (r : Store) (p n : ℕ) (xs : List Segment) (sty : 
       let c = plus none (total ts) in
       let is : c ≡ numbers r p n = plus_laws.left (total ts) ∙ h.totals in
       let off : c.words ≡ length r.words + 0 = ap (λ d. d.words) is ∙ omega arith in
-      let there : drop c.words q.words ≡ o.words = ap (λ j. drop j q.words) off ∙ drop_past r.words o.words 0 in
+      let there : drop c.words q.words ≡ o.words = ap (λ j. drop j q.words) off ∙ drop-append-add r.words o.words 0 in
       let half : c.styles / 2 ≡ length r.styles = ap (λ d. d.styles / 2) is ∙ omega arith in
       let moved : c.transforms ≡ length r.transforms = ap (λ d. d.transforms) is in
       let around : Around q sty tra c = record {

@@ -1,5 +1,6 @@
 -- A path's segments find their points in its words, and its tags count them. Assumes nothing.
 use Rattle.std.proofs.Common.{◌≡◌, ◌+◌, ◌≤◌, true, List, [], ◌∷◌, ◌++◌, length, drop, Option, sym, refl, ap, ◌∙◌, subst, arith, length-drop, length-take}
+use Rattle.std.proofs.lemmas.List.{drop-drop}
 use Rattle.geometry.specs.declared.points.Point.{Point}
 use Rattle.geometry.specs.declared.points.Segment as Geometric
 use Rattle.geometry.specs.declared.points.Segment.TheVariants.{Line, Quad, Cubic}
@@ -12,7 +13,6 @@ use Rattle.path.specs.Turns.{Piece, reads, passes, pieces, piece, drawn, all_dra
 use Rattle.values.specs.declared.transform.Transform.{Transform}
 use Rattle.replay.specs.Calls.{Chosen}
 use Rattle.replay.specs.Log.{styled}
-use Rattle.replay.proofs.Lists.{drop-drop}
 use Rattle.replay.proofs.Shown.{Store, At, Reads, Around, around-on, head-segment}
 
 -- a segment tag counts itself and the words that it passes

@@ -1,10 +1,10 @@
 -- Entries that are read by a count, and tables that are filled by counting. Assumes nothing.
-use Rattle.std.proofs.Common.{◌≡◌, ℕ, zero, suc, ◌+◌, ◌-◌, ◌<◌, ◌≤◌, Bool, true, false, cond, not, eqb, ◌⊎◌, List, [], ◌∷◌, length, get_or, take, drop, set, sym, refl, ap, ◌∙◌, subst, inl, inr, arith, length-set, length-take, take_all, take-add, rules}
+use Rattle.std.proofs.Common.{◌≡◌, ℕ, zero, suc, ◌+◌, ◌-◌, ◌<◌, ◌≤◌, Bool, true, false, cond, not, eqb, List, [], ◌∷◌, length, get_or, take, drop, set, Some, None, Option, sym, refl, ap, ◌∙◌, subst, inl, inr, arith, length-set, length-take, take_all, take-add, rules}
 use Rattle.std.specs.Array.{IsFromFnResult, IsFromFnResultFrom}
 use Rattle.std.specs.Fn.{Called}
 use denote.Param.Members.{Mut}
-use Rattle.std.proofs.lemmas.List.{get_or_default, take_more, get_or-set_same, get_or-set_other}
-use Rattle.std.proofs.lemmas.Bool.{cases_eq}
+use Rattle.std.proofs.lemmas.List.{get_or_default, get_or-set_same, get_or-set_other}
+use Rattle.std.proofs.lemmas.Bool.{cases_eq, cases_lt}
 use Rattle.monoid.specs.declared.path.PathTag.{PathTag}
 use Rattle.monoid.specs.declared.draw.DrawTag.{DrawTag}
 use Rattle.monoid.specs.Answers.{most}
@@ -12,7 +12,7 @@ use Rattle.monoid.specs.Laws.{Laws}
 use Rattle.monoid.specs.PathTags.{Counts, plus, from_tag, from_word, segment_type, is_segment, Small}
 use Rattle.monoid.specs.DrawTags as Draws
 use Rattle.monoid.specs.Packing.{blank, word}
-use Rattle.monoid.proofs.Reducing.{reduced-append, reduced-one}
+use Rattle.monoid.proofs.Reducing.{reduced-append, reduced-more}
 use Rattle.monoid.proofs.Packs.{plus_laws, packed-counts}
 use Rattle.monoid.specs.Bounds.{draws_few, tags_few}
 use Rattle.replay.specs.Wanted.{counted, drawn_total, words_in}
@@ -77,16 +77,12 @@ module _ {R : Type 0} (P : ℕ → R → Type 0) (was rows : List R) (n : ℕ) (
 pub draw_laws : Laws Draws.none Draws.plus
 draw_laws = search rules
 
-module _ (ts : List DrawTag) (i : ℕ) (d : DrawTag) (l : i < length ts) (few : length ts ≤ most) (c : Draws.Draws) (is : c ≡ drawn_total (take i ts)) where
+module _ (ts : List DrawTag) (i : ℕ) (d : DrawTag) (l : i < length ts) (c : Draws.Draws) (is : c ≡ drawn_total (take i ts)) where
   pub draws-more : Draws.plus c (Draws.from_tag (get_or ts i d)) ≡ drawn_total (take (i + 1) ts)
-  draws-more =
-      ap (λ x. Draws.plus x (Draws.from_tag (get_or ts i d))) is
-      ∙ ap (Draws.plus (drawn_total (take i ts))) (sym (reduced-one draw_laws Draws.from_tag (get_or ts i d)))
-      ∙ sym (reduced-append draw_laws Draws.from_tag (take i ts) (get_or ts i d ∷ []))
-      ∙ ap drawn_total (sym (take_more ts i d l))
+  draws-more = reduced-more draw_laws Draws.from_tag ts i l (get_or_default ts i d _ l) is refl
 
-  pub draws-fit : Draws.Small (Draws.plus c (Draws.from_tag (get_or ts i d)))
-  draws-fit =
+  pub draws-fit : length ts ≤ most → Draws.Small (Draws.plus c (Draws.from_tag (get_or ts i d)))
+  draws-fit few =
       let k = draws_few (take (i + 1) ts) in
       let n : length (take (i + 1) ts) ≤ most = simp length-take (omega arith) in
       subst Draws.Small (sym draws-more) (omega arith, omega arith, omega arith, omega arith)
@@ -99,16 +95,12 @@ alone t h =
     let same : t.0 ≡ word t blank blank blank = omega arith in
     ap from_word same ∙ sym (plus_laws.right (from_word (word t blank blank blank))) ∙ packed-counts (t ∷ []) ∙ plus_laws.right (from_tag t)
 
-module _ (ts : List PathTag) (i : ℕ) (d : PathTag) (l : i < length ts) (few : length ts ≤ most) (c : Counts) (is : c ≡ total (take i ts)) where
+module _ (ts : List PathTag) (i : ℕ) (d : PathTag) (l : i < length ts) (c : Counts) (is : c ≡ total (take i ts)) where
   pub tags_more : plus c (from_tag (get_or ts i d)) ≡ total (take (i + 1) ts)
-  tags_more =
-      ap (λ x. plus x (from_tag (get_or ts i d))) is
-      ∙ ap (plus (total (take i ts))) (sym (reduced-one plus_laws from_tag (get_or ts i d)))
-      ∙ sym (reduced-append plus_laws from_tag (take i ts) (get_or ts i d ∷ []))
-      ∙ ap total (sym (take_more ts i d l))
+  tags_more = reduced-more plus_laws from_tag ts i l (get_or_default ts i d _ l) is refl
 
-  pub tags-fit : Small (plus c (from_tag (get_or ts i d)))
-  tags-fit =
+  pub tags-fit : length ts ≤ most → Small (plus c (from_tag (get_or ts i d)))
+  tags-fit few =
       let k = tags_few (take (i + 1) ts) in
       let n : length (take (i + 1) ts) ≤ most = simp length-take (omega arith) in
       subst Small (sym tags_more) (omega arith, omega arith, omega arith, omega arith, omega arith)
@@ -134,10 +126,7 @@ mono ts k j =
     omega arith
 
 tags-step : (ts : List PathTag) (k : ℕ) → k < length ts → plus (total (take k ts)) (from_tag (get_or ts k blank)) ≡ total (take (k + 1) ts)
-tags-step ts k l =
-    ap (plus (total (take k ts))) (sym (reduced-one plus_laws from_tag (get_or ts k blank)))
-    ∙ sym (reduced-append plus_laws from_tag (take k ts) (get_or ts k blank ∷ []))
-    ∙ ap total (sym (take_more ts k blank l))
+tags-step ts k l = tags_more ts k blank l (total (take k ts)) refl
 
 a-segment : (z : Bool) → not z ≡ true → ◌≡◌ {A = ℕ} (cond z 0 1) 1
 a-segment true h = let q : ◌≡◌ {A = ℕ} 0 1 = cc in absurd (omega arith)
@@ -161,15 +150,10 @@ before_last ts k l s =
     let c = ap (λ xs. (total xs).segments) all in
     omega arith
 
-split : (a b : ℕ) → (a < b) ⊎ (b ≤ a)
-split a zero = inr (omega arith)
-split zero (suc b) = inl (omega arith)
-split (suc a) (suc b) = elim (split a b) [ inl h ↦ inl (omega arith) | inr h ↦ inr (omega arith) ]
-
 -- two places with as many segments before them are the same
 same_place : (ts : List PathTag) (i k : ℕ) → i < length ts → k < length ts → is_segment (get_or ts i blank) ≡ true → is_segment (get_or ts k blank) ≡ true → (total (take k ts)).segments ≡ (total (take i ts)).segments → k ≡ i
 same_place ts i k li lk si sk e =
-    elim (split k i) [
+    elim (cases_lt k i) [
       | inl h ↦
           let a = one_more ts k lk sk in
           let b = mono ts (k + 1) (i - (k + 1)) in
@@ -177,7 +161,7 @@ same_place ts i k li lk si sk e =
           let c = ap (λ x. (total (take x ts)).segments) n in
           absurd (omega arith)
       | inr h ↦
-          elim (split i k) [
+          elim (cases_lt i k) [
             | inl g ↦
                 let a = one_more ts i li si in
                 let b = mono ts (i + 1) (k - (i + 1)) in
@@ -200,24 +184,30 @@ none_more ts k l s =
     omega arith
 
 -- one path tag more: its row, if it is a segment's
-module _ (ts : List PathTag) (ws : List ℕ) (tr : List Transform) (st : List Style) (was rows : List ShownSegment) (i : ℕ) (l : i < length ts) (c : Counts) (is : c ≡ total (take i ts)) (r : ShownSegment) (e : r ≡ segment-at ws tr st c (get_or ts i blank)) (f : Filled (SegmentRow ts ws tr st) was rows (total (take i ts)).segments) where
+abbrev pub written : Option ShownSegment → ℕ → List ShownSegment → List ShownSegment
+written None j rows = rows
+written (Some r) j rows = set rows j r
+
+module _ (ts : List PathTag) (ws : List ℕ) (tr : List Transform) (st : List Style) (was rows : List ShownSegment) (i : ℕ) (l : i < length ts) (c : Counts) (is : c ≡ total (take i ts)) (f : Filled (SegmentRow ts ws tr st) was rows (total (take i ts)).segments) where
   abbrev n : ℕ
   n = (total (take i ts)).segments
+
+  abbrev r : ShownSegment
+  r = segment-at ws tr st c (get_or ts i blank)
 
   row_at : c.segments ≡ n
   row_at = ap (λ (x : Counts). x.segments) is
 
-  by-tag : (b : Bool) → is_segment (get_or ts i blank) ≡ b → Filled (SegmentRow ts ws tr st) was (cond b (set rows c.segments r) rows) (total (take (i + 1) ts)).segments
+  by-tag : (b : Bool) → is_segment (get_or ts i blank) ≡ b → Filled (SegmentRow ts ws tr st) was (written (cond b (Some r) None) c.segments rows) (total (take (i + 1) ts)).segments
   by-tag true s =
       subst (Filled (SegmentRow ts ws tr st) was (set rows c.segments r)) (sym (one_more ts i l s))
       (subst (λ k. Filled (SegmentRow ts ws tr st) was (set rows k r) (n + 1)) (sym row_at)
-      (filled_more (SegmentRow ts ws tr st) was rows n r f (subst (λ k. SegmentRow ts ws tr st k r) row_at (segment-row ts ws tr st i c r l s is e))))
+      (filled_more (SegmentRow ts ws tr st) was rows n r f (subst (λ k. SegmentRow ts ws tr st k r) row_at (segment-row ts ws tr st i c r l s is refl))))
   by-tag false s = subst (Filled (SegmentRow ts ws tr st) was rows) (sym (none_more ts i l s)) f
 
-  pub segments-more : (rows' : List ShownSegment) → rows' ≡ cond (is_segment r.tag) (set rows c.segments r) rows → Filled (SegmentRow ts ws tr st) was rows' (total (take (i + 1) ts)).segments
-  segments-more rows' h =
-      let t : is_segment r.tag ≡ is_segment (get_or ts i blank) = ap (λ (x : ShownSegment). is_segment x.tag) e in
-      subst (λ z. Filled (SegmentRow ts ws tr st) was z (total (take (i + 1) ts)).segments) (sym (h ∙ ap (λ b. cond b (set rows c.segments r) rows) t)) (by-tag (is_segment (get_or ts i blank)) refl)
+  pub segments-more : (o : Option ShownSegment) → o ≡ cond (is_segment (get_or ts i blank)) (Some r) None → (rows' : List ShownSegment) → rows' ≡ written o c.segments rows → Filled (SegmentRow ts ws tr st) was rows' (total (take (i + 1) ts)).segments
+  segments-more o e rows' h =
+      subst (λ z. Filled (SegmentRow ts ws tr st) was z (total (take (i + 1) ts)).segments) (sym (h ∙ ap (λ x. written x c.segments rows) e)) (by-tag (is_segment (get_or ts i blank)) refl)
 
 pub segments-done : (ts : List PathTag) (ws : List ℕ) (tr : List Transform) (st : List Style) (was rows : List ShownSegment) (n : ℕ) → length ts ≤ most → n ≡ (total ts).segments → Filled (SegmentRow ts ws tr st) was rows (total ts).segments → SegmentsRead ts ws tr st was rows n
 segments-done ts ws tr st was rows n few is f = record {

@@ -1,6 +1,10 @@
 -- One call more of a list that is replayed. Assumes nothing.
-use Rattle.std.proofs.Common.{◌≡◌, ℕ, ◌+◌, ◌<◌, Bool, true, false, List, [], ◌∷◌, ◌++◌, map, reverse, length, get_or, take, drop, set, sym, refl, ap, ◌∙◌, subst, arith}
+use Rattle.std.proofs.Common.{◌≡◌, ℕ, ◌+◌, ◌<◌, Bool, true, false, List, [], ◌∷◌, ◌++◌, map, reverse, length, get_or, take, drop, set, sym, refl, ap, ◌∙◌, arith}
 use Rattle.std.proofs.lemmas.List.{map-append, reverse-append, take_more, take_more_set, drop-set-lt, drop_more}
+use Rattle.monoid.specs.declared.path.PathTag.{PathTag}
+use Rattle.monoid.specs.declared.draw.DrawTag.{DrawTag}
+use Rattle.values.specs.declared.transform.Transform.{Transform}
+use Rattle.values.specs.declared.style.Style.{Style}
 use Rattle.encoding.specs.declared.encoding.Encoding.{Encoding}
 use Rattle.encoding.specs.Sheet.{Streams, sheet, blank}
 use Rattle.replay.specs.declared.calls.Answer.{Answer}
@@ -10,15 +14,8 @@ use Rattle.replay.specs.declared.calls.Call as Value
 use Rattle.replay.specs.Calls.{Call, Made, made, taken}
 use Rattle.replay.specs.Runs.{Run, shown}
 use Rattle.replay.specs.Runs.Run.{begun, brought, accepted, declined}
-use Rattle.replay.specs.Meant.{meant, Called, Ran, ShownBy}
+use Rattle.replay.specs.Meant.{meant, six, Called, Ran, ShownBy}
 use Rattle.replay.proofs.Runs.{stays, same_over, runs_show}
-
--- by the plan that there is, and by the call
-pub by_plan : {c : Call} {h h₁ h' : Plan} {m m' : Streams} {a : Answer} → h ≡ h₁ → Called c h₁ m a h' m' → Called c h m a h' m'
-by_plan {c = c} {h' = h'} {m = m} {m' = m'} {a = a} e k = subst (λ (x : Plan). Called c x m a h' m') (sym e) k
-
-pub by_call : {k k' : Value.Call} {h h' : Plan} {m m' : Streams} {a : Answer} → k ≡ k' → Called (meant k') h m a h' m' → Called (meant k) h m a h' m'
-by_call {h = h} {h' = h'} {m = m} {m' = m'} {a = a} e s = subst (λ (x : Value.Call). Called (meant x) h m a h' m') (sym e) s
 
 -- an answered call is one more of the run, and the streams are those that it left
 run_more : (b : Bool) {xs : List Made} (c : Call) (h : Plan) (m : Streams) (a : Answer) (h' : Plan) (m' : Streams) → taken a ≡ b → Run xs h m → Called c h m a h' m' → Run (made c a ∷ xs) h' m'
@@ -62,3 +59,6 @@ module _ (cs : List Value.Call) (was answers : List Answer) (i : ℕ) (k d : Val
 pub shown_by : (h : Plan) (cs : List Value.Call) (answers : List Answer) (m : Streams) (r : Ran cs answers h m) → ShownBy h r.made m
 shown_by (Closed e) cs answers m r = runs_show r.made e m r.run
 shown_by (Open p) cs answers m r = tt
+
+pub six_alike : {a a' : List PathTag} {b b' : List ℕ} {c c' : List DrawTag} {d d' : List ℕ} {e e' : List Transform} {f f' : List Style} → a ≡ a' → b ≡ b' → c ≡ c' → d ≡ d' → e ≡ e' → f ≡ f' → six a b c d e f ≡ six a' b' c' d' e' f'
+six_alike p q r s t u = cc

@@ -1,5 +1,6 @@
 -- A run leaves what the rules leave. Assumes nothing.
 use Rattle.std.proofs.Common.{◌≡◌, ℕ, Bool, true, false, List, take, drop, Some, None, Ok, Err, Option, Result, sym, refl, ap, ◌∙◌, subst, arith}
+use Rattle.std.proofs.lemmas.Bool.{false≢true}
 use Rattle.values.specs.declared.element.PathEl.{PathEl}
 use Rattle.values.specs.declared.element.ElementError.{ElementError}
 use Rattle.values.specs.declared.error.EncodeError.{EncodeError}
@@ -22,7 +23,7 @@ use Rattle.replay.specs.Runs.Run.{begun, brought, accepted, declined}
 use Rattle.replay.proofs.Theorem.{rules_show}
 
 never : {P : Type 0} → false ≡ true → P
-never bad = let z : ◌≡◌ {A = ℕ} 0 1 = cc in absurd (omega arith)
+never bad = absurd (false≢true bad)
 
 -- a call of a rule
 

@@ -1,6 +1,7 @@
 -- The segments that a row of path tags shows, one by one. Assumes nothing.
 use Rattle.std.proofs.Common.{◌≡◌, ℕ, suc, ◌+◌, ◌/◌, ◌≤◌, Bool, true, false, cond, not, eqb, List, [], ◌∷◌, ◌++◌, map, length, Some, Option, sym, refl, ap, ◌∙◌, subst, arith, length-append}
-use Rattle.std.specs.List.{slice_get}
+use Rattle.std.specs.List.{slice_get, filter}
+use Rattle.std.proofs.lemmas.Bool.{false≢true}
 use Rattle.monoid.specs.declared.path.PathTag.{PathTag}
 use Rattle.monoid.specs.Laws.{reduced}
 use Rattle.monoid.specs.PathTags.{Counts, none, plus, from_tag, segment_type, is_segment}
@@ -10,7 +11,7 @@ use Rattle.values.specs.declared.transform.Transform.{Transform}
 use Rattle.values.specs.declared.style.Style.{Style}
 use Rattle.replay.specs.Calls.{Chosen}
 use Rattle.replay.specs.Log.{Segment}
-use Rattle.replay.specs.Wanted.{Shows, StyledAs, MovedAs, kept, last_counted}
+use Rattle.replay.specs.Wanted.{Shows, StyledAs, MovedAs, last_counted}
 use Rattle.replay.proofs.Lists.{part_append, counted-append}
 
 -- what tags count, one by one
@@ -82,19 +83,13 @@ module _ (r : Store) (ws : List ℕ) (tr : List Transform) (st : List Style) whe
 
 -- in order
 
-kept_head : (b : Bool) (t : PathTag) (ts : List PathTag) (P : List Segment → Type 0) (Q : Segment → Type 0) (xs : List Segment) → ((x : Segment) → Q x → x.tag ≡ t) → ((zs : List Segment) → P zs → kept is_segment ts ≡ map (λ (x : Segment). x.tag) zs) → Head b P Q xs → cond b (t ∷ kept is_segment ts) (kept is_segment ts) ≡ map (λ (x : Segment). x.tag) xs
+kept_head : (b : Bool) (t : PathTag) (ts : List PathTag) (P : List Segment → Type 0) (Q : Segment → Type 0) (xs : List Segment) → ((x : Segment) → Q x → x.tag ≡ t) → ((zs : List Segment) → P zs → filter is_segment ts ≡ map (λ (x : Segment). x.tag) zs) → Head b P Q xs → cond b (t ∷ filter is_segment ts) (filter is_segment ts) ≡ map (λ (x : Segment). x.tag) xs
 kept_head false t ts P Q xs q f h = f xs h
 kept_head true t ts P Q [] q f h = absurd h
-kept_head true t ts P Q (x ∷ xs) q f h = ap (λ u. u ∷ kept is_segment ts) (sym (q x h.0)) ∙ ap (λ l. x.tag ∷ l) (f xs h.1)
-
-never : false ≡ true → ⊥
-never bad = let z : ◌≡◌ {A = ℕ} 0 1 = cc in omega arith
-
-segments_by : (b : Bool) → ℕ
-segments_by b = cond b 0 1
+kept_head true t ts P Q (x ∷ xs) q f h = ap (λ u. u ∷ filter is_segment ts) (sym (q x h.0)) ∙ ap (λ l. x.tag ∷ l) (f xs h.1)
 
 module _ (r : Store) where
-  pub reads_kept : (c : Counts) (ts : List PathTag) (xs : List Segment) → Reads r c ts xs → kept is_segment ts ≡ map (λ (x : Segment). x.tag) xs
+  pub reads_kept : (c : Counts) (ts : List PathTag) (xs : List Segment) → Reads r c ts xs → filter is_segment ts ≡ map (λ (x : Segment). x.tag) xs
   reads_kept c [] xs h = sym (ap (map (λ (x : Segment). x.tag)) h)
   reads_kept c (t ∷ ts) xs h =
       kept_head (is_segment t) t ts (λ ys. Reads r (plus c (from_tag t)) ts ys) (λ x. At r c t x) xs (λ x q. q.tag) (λ zs. reads_kept (plus c (from_tag t)) ts zs) h
@@ -103,7 +98,7 @@ module _ (r : Store) where
   Found c before t xs = (x : Segment) × (slice_get xs (total before).segments ≡ Some x) × At r (plus c (total before)) t x
 
   found_here : (b : Bool) (c : Counts) (t : PathTag) (P : List Segment → Type 0) (xs : List Segment) → b ≡ true → Head b P (λ x. At r c t x) xs → Found c [] t xs
-  found_here false c t P xs b h = absurd (never b)
+  found_here false c t P xs b h = absurd (false≢true b)
   found_here true c t P [] b h = absurd h
   found_here true c t P (x ∷ xs) b h = (x, refl, subst (λ d. At r d t x) (sym (plus_laws.right c)) h.0)
 
@@ -144,4 +139,4 @@ module _ (r : Store) where
 
   pub head-segment : (t : PathTag) (P : List Segment → Type 0) (Q : Segment → Type 0) (x : Segment) (xs : List Segment) (b : Bool) → b ≡ true → Q x → P xs → Head b P Q (x ∷ xs)
   head-segment t P Q x xs true e q p = (q, p)
-  head-segment t P Q x xs false e q p = absurd (never e)
+  head-segment t P Q x xs false e q p = absurd (false≢true e)

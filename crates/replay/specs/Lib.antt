@@ -4,5 +4,6 @@ pub mod Log
 pub mod Wanted
 pub mod Runs
 pub mod Meant
+pub mod Lent
 pub mod Reading
 pub mod Worked

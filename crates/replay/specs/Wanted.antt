@@ -1,6 +1,6 @@
 -- What the streams show after every run, whenever no path is open: totals, segments, draw commands. Assumes nothing.
-use Rattle.std.specs.Prelude.{◌≡◌, ℕ, zero, suc, ◌+◌, ◌-◌, ◌*◌, ◌/◌, ◌<◌, ◌≤◌, Bool, true, cond, List, [], ◌∷◌, ◌++◌, map, length, take, drop, replicate, Some, None, Option}
-use Rattle.std.specs.List.{slice_get}
+use Rattle.std.specs.Prelude.{◌≡◌, ℕ, zero, suc, ◌+◌, ◌-◌, ◌*◌, ◌/◌, ◌<◌, ◌≤◌, true, List, ◌∷◌, ◌++◌, map, length, take, drop, replicate, Some, None, Option}
+use Rattle.std.specs.List.{slice_get, filter}
 use Rattle.monoid.specs.declared.path.PathTag.{PathTag}
 use Rattle.monoid.specs.declared.draw.DrawTag.{DrawTag}
 use Rattle.monoid.specs.Laws.{reduced}
@@ -41,10 +41,6 @@ pub record Totals (xs : List Made) (s : Sheet) : Type 0 where
 
 -- segments
 
-abbrev pub kept : {A : Type 0} → (A → Bool) → List A → List A
-kept p [] = []
-kept p (t ∷ ts) = cond (p t) (t ∷ kept p ts) (kept p ts)
-
 -- the last of the first n, or none
 abbrev pub last_counted : {A : Type 0} → List A → ℕ → Option A
 last_counted xs zero = None
@@ -83,7 +79,7 @@ Shown s c t x = Shows s.outlines.words.entries s.transforms.written.entries s.st
 
 -- the segment tags are the log's, in order; what the tags before one reduce to is where the streams show it
 pub record Segments (l : Log) (s : Sheet) : Type 0 where
-  pub in_order : kept is_segment s.tags.entries ≡ map (λ (x : Segment). x.tag) l.segments
+  pub in_order : filter is_segment s.tags.entries ≡ map (λ (x : Segment). x.tag) l.segments
   pub each : (before : List PathTag) (t : PathTag) (later : List PathTag) → s.tags.entries ≡ before ++ t ∷ later → is_segment t ≡ true →
       (x : Segment) × (slice_get l.segments (counted before).segments ≡ Some x) × Shown s (counted before) t x
 

@@ -1,4 +1,8 @@
 // The calls of a plan as values, and what they answer.
+ghost use Rattle.std.specs.Prelude.{◌≡◌};
+ghost use Rattle.replay.specs.declared.calls.Answer.TheVariants as Of;
+ghost use Rattle.replay.specs.Runs.{answer_of, list_answer, done};
+
 use encoding::encoding::Encoding;
 use encoding::path_encoder::PathEncoder;
 use values::element::{ElementError, PathEl};
@@ -7,7 +11,7 @@ use values::style::{Fill, Stroke};
 use values::transform::Transform;
 
 /// A call on a plan, with its arguments.
-#[derive(Clone, Copy)]
+#[derive(Clone, Copy, Debug, PartialEq)]
 pub enum Call<'a> {
     /// `reset`.
     Reset,
@@ -21,16 +25,29 @@ pub enum Call<'a> {
     StrokeStyle(Stroke),
     /// `encode_color`.
     Color(u32),
-    /// `encode_blurred_rounded_rect`: its colour, width, height, radius and deviation.
-    BlurredRoundedRect(u32, f32, f32, f32, f32),
-    /// `encode_begin_clip`: its mix, compose and alpha.
-    BeginClip(u8, u8, f32),
+    /// `encode_blurred_rounded_rect`.
+    BlurredRoundedRect {
+        color: u32,
+        width: f32,
+        height: f32,
+        radius: f32,
+        std_dev: f32,
+    },
+    /// `encode_begin_clip`.
+    BeginClip {
+        mix: u8,
+        compose: u8,
+        alpha: f32,
+    },
     /// `encode_end_clip`.
     EndClip,
     /// `encode_empty_shape`.
     EmptyShape,
-    /// `encode_path_elements`, and whether the path is a fill.
-    PathElements(&'a [PathEl], bool),
+    /// `encode_path_elements`.
+    PathElements {
+        elements: &'a [PathEl],
+        is_fill: bool,
+    },
     /// `encode_path`, and whether the path is a fill.
     Path(bool),
     /// The path call of one element.
@@ -42,7 +59,7 @@ pub enum Call<'a> {
 }
 
 /// What a call answered.
-#[derive(Clone, Copy)]
+#[derive(Clone, Copy, Debug, PartialEq, Eq)]
 pub enum Answer {
     /// It was accepted.
     Done,
@@ -56,6 +73,30 @@ pub enum Answer {
     DeclinedAt(ElementError),
     /// It cannot be made here, with a path open or with none open, and was passed over.
     NotNow,
+}
+
+impl From<Result<(), EncodeError>> for Answer {
+    ghost from_gives = { λ r a. a ≡ answer_of done r };
+
+    fn from(res: Result<(), EncodeError>) -> Answer {
+        res.map_or_else(Answer::Declined, |()| Answer::Done)
+    }
+}
+
+impl From<Result<bool, EncodeError>> for Answer {
+    ghost from_gives = { λ r a. a ≡ answer_of Of.Said r };
+
+    fn from(res: Result<bool, EncodeError>) -> Answer {
+        res.map_or_else(Answer::Declined, Answer::Said)
+    }
+}
+
+impl From<Result<bool, ElementError>> for Answer {
+    ghost from_gives = { λ r a. a ≡ list_answer r };
+
+    fn from(res: Result<bool, ElementError>) -> Answer {
+        res.map_or_else(Answer::DeclinedAt, Answer::Said)
+    }
 }
 
 /// What is held between two calls.

@@ -11,8 +11,10 @@ use std::array;
 use values::style::Style;
 use values::transform::Transform;
 
+// A row owns its words, so that the streams can be lent to calls while the table is kept: hence eight, filled with zeros.
+
 /// What the streams show of a segment.
-#[derive(Clone, Copy)]
+#[derive(Clone, Copy, Debug, PartialEq)]
 pub struct ShownSegment {
     pub tag: PathTag,
     /// The words of its points, the point that it starts from first, and zeros after them.
@@ -24,7 +26,7 @@ pub struct ShownSegment {
 }
 
 /// What the streams show of a draw command.
-#[derive(Clone, Copy)]
+#[derive(Clone, Copy, Debug, PartialEq)]
 pub struct ShownCommand {
     pub tag: DrawTag,
     /// Its words, and zeros after them.
@@ -57,23 +59,24 @@ fn eight_at(words: &[u32], offset: u32, n: usize) -> [u32; 8]
     array::from_fn(|i| word_at(words, offset, n, i))
 }
 
-// A segment at the offsets that were counted before it. The three streams go together here alone: a struct of them is longer.
+// A segment at the offsets that were counted before it, or none for a tag that is no segment. The three streams go
+// together here alone: a struct of them is longer.
 fn segment_at(
     path_data: &[u32],
     transforms: &[Transform],
     styles: &[Style],
     before: PathMonoid,
     tag: PathTag,
-) -> ShownSegment
-    ensures { result ≡ segment-at path_data.now transforms.now styles.now (counts_of before) tag }
+) -> Option<ShownSegment>
+    ensures { result ≡ (if is_segment tag then Some (segment-at path_data.now transforms.now styles.now (counts_of before) tag) else None) }
 {
-    let n = 2 * (tag.path_segment_type().map_or(0, |kind| kind.points()) + 1);
-    ShownSegment {
+    let n = 2 * (tag.path_segment_type()?.points() + 1);
+    Some(ShownSegment {
         tag,
         points: eight_at(path_data, before.pathseg_offset, n),
         style: last_counted(styles, before.style_ix as usize / 2),
         transform: last_counted(transforms, before.trans_ix as usize),
-    }
+    })
 }
 
 // Writes a row, if the table has it. A proof knows no element of a slice after `get_mut`, so this is an index write.
@@ -82,15 +85,6 @@ fn put<T: Copy>(table: &mut [T], row: usize, value: T)
 {
     if row < table.len() {
         table[row] = value;
-    }
-}
-
-// Writes the row of a tag, if it is a segment's.
-fn put_segment(table: &mut [ShownSegment], row: usize, shown: ShownSegment)
-    ensures { table.new ≡ (if is_segment shown.tag then slice_set table.old row shown else table.old) }
-{
-    if shown.tag.is_path_segment() {
-        put(table, row, shown);
     }
 }
 
@@ -126,8 +120,9 @@ pub fn read_segments(
     few_enough(path_tags.len())?;
     let mut before = PathMonoid::identity();
     for tag in path_tags {
-        let shown = segment_at(path_data, transforms, styles, before, *tag);
-        put_segment(table, before.pathseg_ix as usize, shown);
+        if let Some(shown) = segment_at(path_data, transforms, styles, before, *tag) {
+            put(table, before.pathseg_ix as usize, shown);
+        }
         before = before.combine_fitting(&PathMonoid::new(tag.0 as u32));
     }
     Ok(before.pathseg_ix as usize)

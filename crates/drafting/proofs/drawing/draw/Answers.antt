@@ -1,7 +1,8 @@
 -- What was written over the streams is what they hold.
 use Rattle.std.proofs.Common.{length, ap, ◌∙◌, arith}
 use Rattle.std.proofs.lemmas.List.{with_items_is}
-use Rattle.drafting.proofs.AllDrawn.{drawn_as, six_alike}
+use Rattle.drafting.proofs.AllDrawn.{drawn_as}
+use Rattle.replay.proofs.Replaying.{six_alike}
 use Rattle.drafting.proofs.drawing.draw.Goals as goal
 
 pub returns : goal.returns
