@@ -44,29 +44,29 @@ mod tests {
         Point { x, y }
     }
 
-    fn ends_at<C: Curve>(first: Point, c: C, end: Point) -> bool {
-        match c.tangent_end(first) {
-            Some(p) => is_same_point(p, end),
-            None => false,
-        }
-    }
-
     #[test]
     fn tangents(rt: HostRuntime) {
         for (first, to, end) in TANGENTS {
-            assert!(rt; ends_at(at(first, 0), Line(at(to, 0)), at(end, 0)));
+            assert_eq!(rt; Line(at(to, 0)).tangent_end(at(first, 0)), Some(at(end, 0)));
         }
         let origin = at(0, 0);
-        assert!(rt; ends_at(origin, Quad(at(THREE, 0), at(0, ONE)), at(TWO, 0)));
-        assert!(rt; ends_at(origin, Quad(origin, at(0, THREE)), at(0, ONE)));
-        assert!(rt; ends_at(origin, Cubic(origin, at(0, ONE), at(TWO, 0)), at(0, ONE)));
-        assert!(rt; Cubic(origin, origin, origin).tangent_end(origin).is_none());
+        assert_eq!(rt;
+            Quad(at(THREE, 0), at(0, ONE)).tangent_end(origin),
+            Some(at(TWO, 0))
+        );
+        assert_eq!(rt;
+            Quad(origin, at(0, THREE)).tangent_end(origin),
+            Some(at(0, ONE))
+        );
+        let cubic = Cubic(origin, at(0, ONE), at(TWO, 0));
+        assert_eq!(rt; cubic.tangent_end(origin), Some(at(0, ONE)));
+        assert_eq!(rt; Cubic(origin, origin, origin).tangent_end(origin), None);
     }
 
     #[test]
     fn extents(rt: HostRuntime) {
         for (last_x, last_y, x, y, short) in LINES {
-            assert!(rt; Line(at(x, y)).is_short(at(last_x, last_y)) == short);
+            assert_eq!(rt; Line(at(x, y)).is_short(at(last_x, last_y)), short);
         }
         let origin = at(0, 0);
         assert!(rt; !Quad(at(ONE, 0), origin).is_short(origin));
