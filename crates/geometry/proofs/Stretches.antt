@@ -4,6 +4,7 @@ use lib.Ieee.{Float, nan, inf, fin, binary32, neg, add, sub, lt, eq, le, is_nan}
 use lib.Ieee.Bits.{is_true}
 use Rattle.std.specs.List.{fold}
 use Rattle.std.specs.Float.{float_is_finite, float_with_sign, float_min, float_max}
+use Rattle.geometry.specs.declared.extents.Extent.{Extent}
 use Rattle.geometry.specs.Tangents.{Coordinates, epsilon, apart, far}
 use Rattle.geometry.specs.Extents.{In, Extremes, greatest, smallest, wide, short, xs_of, ys_of}
 use Rattle.geometry.proofs.Epsilon.{epsilon-is}
@@ -214,12 +215,14 @@ near p (q ∷ r ∷ ps) i d l h e = absurd (omega arith)
 
 -- ---- the extent in one pass
 
-pub xs_pass : {A : Type 0} (v : A → Coordinates) (s : Coordinates) (qs : List A)
-    → fold (λ (t : Coordinates) (q : A). (float_min t.0 (v q).0, float_max t.1 (v q).0)) s qs ≡ (smallest s.0 (xs_of (map v qs)), greatest s.1 (xs_of (map v qs)))
+pub xs_pass : {A : Type 0} (v : A → Coordinates) (s : Extent) (qs : List A)
+    → fold (λ (t : Extent) (q : A). record { least = float_min t.least (v q).0; greatest = float_max t.greatest (v q).0 }) s qs
+    ≡ record { least = smallest s.least (xs_of (map v qs)); greatest = greatest s.greatest (xs_of (map v qs)) }
 xs_pass v s [] = refl
-xs_pass v s (q ∷ qs) = xs_pass v (float_min s.0 (v q).0, float_max s.1 (v q).0) qs
+xs_pass v s (q ∷ qs) = xs_pass v (record { least = float_min s.least (v q).0; greatest = float_max s.greatest (v q).0 }) qs
 
-pub ys_pass : {A : Type 0} (v : A → Coordinates) (s : Coordinates) (qs : List A)
-    → fold (λ (t : Coordinates) (q : A). (float_min t.0 (v q).1, float_max t.1 (v q).1)) s qs ≡ (smallest s.0 (ys_of (map v qs)), greatest s.1 (ys_of (map v qs)))
+pub ys_pass : {A : Type 0} (v : A → Coordinates) (s : Extent) (qs : List A)
+    → fold (λ (t : Extent) (q : A). record { least = float_min t.least (v q).1; greatest = float_max t.greatest (v q).1 }) s qs
+    ≡ record { least = smallest s.least (ys_of (map v qs)); greatest = greatest s.greatest (ys_of (map v qs)) }
 ys_pass v s [] = refl
-ys_pass v s (q ∷ qs) = ys_pass v (float_min s.0 (v q).1, float_max s.1 (v q).1) qs
+ys_pass v s (q ∷ qs) = ys_pass v (record { least = float_min s.least (v q).1; greatest = float_max s.greatest (v q).1 }) qs

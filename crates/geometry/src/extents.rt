@@ -8,19 +8,44 @@ ghost use Rattle.geometry.specs.Extents.{short, xs_of, ys_of, Extremes};
 
 use crate::tangents::{EPSILON, is_far};
 
-// The smallest and the greatest number so far, with one more.
-fn widened(s: (f32, f32), x: f32) -> (f32, f32)
-    ensures { result ≡ (float_min s.0 x, float_max s.1 x) }
-{
-    let least = if s.0 <= x || x.is_nan() { s.0 } else { x };
-    let greatest = if x <= s.1 || x.is_nan() { s.1 } else { x };
-    (least, greatest)
+// The smallest and the greatest number so far.
+#[derive(Clone, Copy)]
+struct Extent {
+    least: f32,
+    greatest: f32,
 }
 
-fn is_wide(s: (f32, f32)) -> bool
-    ensures { result ≡ lt epsilon (sub binary32 s.1 s.0) }
-{
-    s.1 - s.0 > EPSILON
+impl Extent {
+    fn at(x: f32) -> Extent
+        ensures { result ≡ record { least = x; greatest = x } }
+    {
+        Extent {
+            least: x,
+            greatest: x,
+        }
+    }
+
+    // With one more number. Written out, since the library's `min` and `max` leave open which of two
+    // zeros they give.
+    fn widened(self, x: f32) -> Extent
+        ensures { result ≡ record { least = float_min self.least x; greatest = float_max self.greatest x } }
+    {
+        let Extent { least, greatest } = self;
+        Extent {
+            least: if least <= x || x.is_nan() { least } else { x },
+            greatest: if x <= greatest || x.is_nan() {
+                greatest
+            } else {
+                x
+            },
+        }
+    }
+
+    fn is_wide(self) -> bool
+        ensures { result ≡ lt epsilon (sub binary32 self.greatest self.least) }
+    {
+        self.greatest - self.least > EPSILON
+    }
 }
 
 /// Whether a segment from `p0` by the points `ps` is too short. Of a line the ends decide.
@@ -39,7 +64,7 @@ pub fn is_short(p0: (f32, f32), ps: &[(f32, f32)]) -> bool
     if controls.is_empty() {
         return true;
     }
-    let x = ps.iter().fold((p0.0, p0.0), |s, p| widened(s, p.0));
-    let y = ps.iter().fold((p0.1, p0.1), |s, p| widened(s, p.1));
-    !(is_wide(x) || is_wide(y))
+    let x = ps.iter().fold(Extent::at(p0.0), |e, p| e.widened(p.0));
+    let y = ps.iter().fold(Extent::at(p0.1), |e, p| e.widened(p.1));
+    !(x.is_wide() || y.is_wide())
 }

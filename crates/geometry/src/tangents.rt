@@ -47,6 +47,7 @@ fn third_towards(p: (f32, f32), q: (f32, f32)) -> (f32, f32)
     (third_to(p.0, q.0), third_to(p.1, q.1))
 }
 
+// Three rules and not one at three sizes: only a cubic's end is one of its points.
 /// The end of the start tangent of a line from `p0`.
 pub fn line_end(p0: (f32, f32), p1: (f32, f32)) -> Option<(f32, f32)>
     ensures value { result ≡ line_end p0 p1 }

@@ -1,7 +1,9 @@
 -- A far end makes the segment long, and of a line decides; else its extent does.
 use Rattle.std.proofs.Common.{◌≡◌, ◌-◌, List, length, map, Bor, sym, ap, ◌∙◌, arith, rules}
 use lib.Ieee.{nan}
+use Rattle.std.specs.List.{fold}
 use Rattle.std.specs.Float.{float_min, float_max}
+use Rattle.geometry.specs.declared.extents.Extent.{Extent}
 use Rattle.geometry.specs.Tangents.{Coordinates}
 use Rattle.geometry.specs.Extents.{xs_of, ys_of, smallest, greatest}
 use Rattle.geometry.proofs.Extremes.{extremes}
@@ -34,10 +36,14 @@ returns c =
     let q = c.fold-y.ensures.runs in
     let i : map now r.0.items ≡ c.args.ps.now = search (rules, (c.iter.ensures.runs r.0 r.0.seen).4 r.2, r.1) in
     let j : map now q.0.items ≡ c.args.ps.now = search (rules, (c.iter-2.ensures.runs q.0 q.0.seen).4 q.2, q.1) in
-    let x : c.fold-x.result ≡ (smallest c.args.p0.0 (xs_of c.args.ps.now), greatest c.args.p0.0 (xs_of c.args.ps.now)) =
-    r.3 (λ (t : Coordinates) (b : Bor Coordinates). (float_min t.0 b.now.0, float_max t.1 b.now.0)) (λ t b y f' k. search rules)
-    ∙ xs_pass now _ r.0.items ∙ ap (λ (ps : List Coordinates). (smallest c.args.p0.0 (xs_of ps), greatest c.args.p0.0 (xs_of ps))) i in
-    let y : c.fold-y.result ≡ (smallest c.args.p0.1 (ys_of c.args.ps.now), greatest c.args.p0.1 (ys_of c.args.ps.now)) =
-    q.3 (λ (t : Coordinates) (b : Bor Coordinates). (float_min t.0 b.now.1, float_max t.1 b.now.1)) (λ t b y f' k. search rules)
-    ∙ ys_pass now _ q.0.items ∙ ap (λ (ps : List Coordinates). (smallest c.args.p0.1 (ys_of ps), greatest c.args.p0.1 (ys_of ps))) j in
+    let e : Coordinates → List Coordinates → Extent = λ p ps. record { least = smallest p.0 (xs_of ps); greatest = greatest p.0 (xs_of ps) } in
+    let f : Coordinates → List Coordinates → Extent = λ p ps. record { least = smallest p.1 (ys_of ps); greatest = greatest p.1 (ys_of ps) } in
+    let x : c.fold-x.result ≡ e c.args.p0 c.args.ps.now =
+    r.3 (λ (t : Extent) (b : Bor Coordinates). record { least = float_min t.least b.now.0; greatest = float_max t.greatest b.now.0 }) (λ t b y f' k. search rules)
+    ∙ ap (λ (s : Extent). fold (λ (t : Extent) (b : Bor Coordinates). record { least = float_min t.least b.now.0; greatest = float_max t.greatest b.now.0 }) s r.0.items) c.at.ensures
+    ∙ xs_pass now _ r.0.items ∙ ap (e c.args.p0) i in
+    let y : c.fold-y.result ≡ f c.args.p0 c.args.ps.now =
+    q.3 (λ (t : Extent) (b : Bor Coordinates). record { least = float_min t.least b.now.1; greatest = float_max t.greatest b.now.1 }) (λ t b y f' k. search rules)
+    ∙ ap (λ (s : Extent). fold (λ (t : Extent) (b : Bor Coordinates). record { least = float_min t.least b.now.1; greatest = float_max t.greatest b.now.1 }) s q.0.items) c.at-2.ensures
+    ∙ ys_pass now _ q.0.items ∙ ap (f c.args.p0) j in
     record { value = search (rules, x, y); in_x = extremes _ _; in_y = extremes _ _ }

@@ -1,7 +1,6 @@
--- The comparison, and what it tells.
-use Rattle.std.proofs.Common.{refl}
+-- What the comparison tells.
 use Rattle.geometry.proofs.Compared.{compares}
 use Rattle.geometry.proofs.numbers.same_number.Goals as goal
 
-pub returns : goal.returns
-returns c = record { value = refl; laws = compares }
+pub returns-clause-laws : goal.returns-clause-laws
+returns-clause-laws c = compares

@@ -1,0 +1,17 @@
+-- The end's two patterns, or none.
+use Rattle.std.proofs.Common.{Some, rules}
+use Rattle.geometry.specs.declared.points.Segment.TheVariants.{Cubic}
+use Rattle.geometry.specs.Segments.{tangent_end}
+use Rattle.geometry.proofs.Tangency.{stays}
+use Rattle.geometry.proofs.curves.CubicCurve.tangent_end.Goals as goal
+
+pub returns-in_default-clause-value : goal.returns-in_default-clause-value
+unfolding tangent_end
+returns-in_default-clause-value c = search rules
+
+pub returns : goal.returns
+unfolding tangent_end
+returns c = record {
+  value = search rules;
+  finite = stays (Some c.point_of.result) c.args.first (Cubic c.args.self.0 c.args.self.1 c.args.self.2) (search rules);
+}
