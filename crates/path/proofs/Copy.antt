@@ -1,8 +1,8 @@
 -- What a call comes to on a copy of a path's last entries.
-use Rattle.std.proofs.Common.{◌≡◌, ℕ, ◌+◌, ◌-◌, ◌≤◌, min, Bool, true, false, cond, ltb, List, ◌++◌, length, take, drop, Some, None, sym, refl, ap, ◌∙◌, arith, length-append, take_at, take-add, ltb-false}
+use Rattle.std.proofs.Common.{◌≡◌, ℕ, ◌+◌, ◌-◌, ◌≤◌, min, Bool, true, false, cond, ltb, List, ◌++◌, length, take, drop, Some, None, sym, refl, ap, ◌∙◌, arith, length-append, length-drop, take_at, ltb-false}
 use Rattle.std.specs.List.{between}
 use Rattle.std.proofs.lemmas.List.Edits.{length-between}
-use Rattle.std.proofs.lemmas.List.{length-take-le}
+use Rattle.std.proofs.lemmas.List.{length-take-le, take-append-drop, take-take, take_all}
 use Rattle.std.proofs.lemmas.Bool.{cond_above}
 use Rattle.path.specs.declared.state.PathState.{PathState}
 use Rattle.path.specs.declared.state.PathState.TheVariants.{Start, MoveTo, NonemptySubpath}
@@ -66,14 +66,20 @@ lengths c a s b front t w d e h k p q =
     (λ n. record { tags = i n; words = j n }) ∙ ap used_by (sym g)
 
 -- the copy is the end of the whole
-pub whole : {X : Type 0} (from p q : List X) (n k : ℕ) → k ≤ n → n ≤ length from → p ≡ between (n - k) n from → take (n - k) from ++ take k (p ++ q) ≡ take n from
-whole {X = X} from p q n k h l e =
-    let i : n - (n - k) ≡ k = omega arith in
-    let j : n - k + k ≡ n = omega arith in
-    let m : length p ≡ k = ap length e ∙ length-between from (n - k) n l ∙ i in
-    let a : take k (p ++ q) ≡ p = take_at p q k m in
-    let b : p ≡ take k (drop (n - k) from) = e ∙ ap (λ (z : ℕ). take z (drop (n - k) from)) i in
-    ap (λ (z : List X). take (n - k) from ++ z) (a ∙ b) ∙ sym (take-add (n - k) k from) ∙ ap (λ (z : ℕ). take z from) j
+pub whole : {X : Type 0} (from p q : List X) (k : ℕ) → k ≤ length from → p ≡ between (length from - k) (length from) from → take (length from - k) from ++ take k (p ++ q) ≡ from
+whole {X = X} from p q k h e =
+    let i : length from - (length from - k) ≡ k = omega arith in
+    let m : length p ≡ k = ap length e ∙ length-between from (length from - k) (length from) (omega arith) ∙ i in
+    let d : length (drop (length from - k) from) ≡ k = length-drop (length from - k) from ∙ i in
+    let b : p ≡ drop (length from - k) from = e ∙ take_all (length from - (length from - k)) (drop (length from - k) from) (omega (arith, d)) in
+    ap (λ (z : List X). take (length from - k) from ++ z) (take_at p q k m ∙ b) ∙ take-append-drop (length from - k) from
+
+-- of the first so many
+pub whole-take : {X : Type 0} (from to : List X) (n k : ℕ) → n ≤ length from → take (length (take n from) - k) (take n from) ++ take k to ≡ take n from → take (n - k) from ++ take k to ≡ take n from
+whole-take {X = X} from to n k h e =
+    let l : length (take n from) ≡ n = length-take-le n from h in
+    let i : take (length (take n from) - k) (take n from) ≡ take (n - k) from = ap (λ m. take (m - k) (take n from)) l ∙ take-take (n - k) n from (omega arith) in
+    ap (λ (z : List X). z ++ take k to) (sym i) ∙ e
 
 -- nothing lacks where all has space
 pub enough : (u : Used) (t w : ℕ) → lacks u t w ≡ None → (u.tags ≤ t) × (u.words ≤ w)

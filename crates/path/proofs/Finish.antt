@@ -1,6 +1,7 @@
 -- The tags of a path at its finish.
-use Rattle.std.proofs.Common.{◌≡◌, ℕ, ◌+◌, ◌<◌, ◌≤◌, Bool, true, false, cond, eqb, List, [], ◌∷◌, ◌++◌, length, take, set, sym, refl, ap, ◌∙◌, arith, length-append, eq-eqb, ne_eqb, eqb-true}
+use Rattle.std.proofs.Common.{◌≡◌, ℕ, ◌+◌, ◌<◌, ◌≤◌, Bool, true, false, cond, eqb, List, [], ◌∷◌, ◌++◌, length, take, drop, set, sym, refl, ap, ◌∙◌, arith, length-append, length-drop, eq-eqb, ne_eqb, eqb-true}
 use borrow.Author.Tests.{eqb-false}
+use Rattle.std.proofs.Math.Seq.{take-append_seam}
 use Rattle.std.proofs.lemmas.List.{length-take-le, take_more_set}
 use Rattle.monoid.specs.declared.path.PathTag.{PathTag}
 use Rattle.path.specs.Entries.{end_last, finished, path_tag}
@@ -67,3 +68,9 @@ end_plain mark ts us n m p h e =
     let k : 0 < length (take n ts) = omega arith in
     let f : finished mark (take n ts) ≡ end_last (take n ts) = finished-some mark (take n ts) k ∙ ap (λ b. cond b (end_last (take n ts) ++ path_tag ∷ []) (end_last (take n ts))) m in
     record { used = omega (arith, ap length f, length-end_last (take n ts)); holds = e ∙ sym f }
+
+-- the first so many tags, whose last has its 04, and those behind
+pub ended-front : (ts us : List PathTag) (n : ℕ) → n ≤ length ts → us ≡ end_last (take n ts) → (take n (us ++ drop n ts) ≡ end_last (take n ts)) × (length (us ++ drop n ts) ≡ length ts)
+ended-front ts us n h e =
+    let l : length us ≡ n = ap length e ∙ length-end_last (take n ts) ∙ length-take-le n ts h in
+    (ap (λ i. take i (us ++ drop n ts)) (sym l) ∙ take-append_seam us (drop n ts) ∙ e, omega (arith, length-append us (drop n ts), length-drop n ts, l, h))

@@ -1,13 +1,13 @@
 -- The last entries of a list.
-use Rattle.std.proofs.Common.{◌≡◌, ℕ, ◌+◌, ◌-◌, ◌<◌, ◌≤◌, List, [], ◌∷◌, ◌++◌, length, get_or, take, set, refl, ap, ◌∙◌, append_assoc, arith, length-append, length-set, get_or-append-add}
-use lib.Seq.{take-set-lt, take-append-add}
-use Rattle.std.proofs.lemmas.List.{take_more_set, length-take-le, get_or-take, take-take, set-append_right}
+use Rattle.std.proofs.Common.{◌≡◌, ℕ, ◌+◌, ◌-◌, ◌≤◌, List, [], ◌++◌, length, take, refl, arith, length-append, length-set, get_or-append-add}
+use lib.Seq.{take-append-add}
+use Rattle.std.proofs.lemmas.List.{length-take-le, take-take, set-append_right}
 use Rattle.geometry.specs.declared.points.Point.{Point}
 use Rattle.geometry.specs.declared.points.Segment.{Segment}
 use Rattle.geometry.specs.declared.points.Segment.TheVariants.{Line, Quad, Cubic}
 use Rattle.geometry.specs.Segments.{end_point}
 use Rattle.monoid.specs.declared.path.PathTag.{PathTag}
-use Rattle.monoid.specs.PathTags.{tag, ended}
+use Rattle.monoid.specs.PathTags.{tag}
 use Rattle.path.specs.Entries.{end_last, drop_point, last_point, point_words, segment_words}
 
 -- behind other entries
@@ -65,37 +65,6 @@ two-words (Quad p q) = omega arith
 two-words (Cubic p q r) = omega arith
 
 -- of the first so many
-pub two_more : (ws : List ℕ) (i x y : ℕ) → i + 2 ≤ length ws → take (i + 2) (set (set ws i x) (i + 1) y) ≡ take i ws ++ x ∷ y ∷ []
-two_more ws i x y h =
-    let e : i + 2 ≡ i + 1 + 1 = omega arith in
-    let l : length (set ws i x) ≡ length ws = length-set ws i x in
-    let a : i + 1 < length (set ws i x) = omega arith in
-    let b : i < length ws = omega arith in
-    let p : take (i + 1 + 1) (set (set ws i x) (i + 1) y) ≡ take (i + 1) (set ws i x) ++ y ∷ [] = take_more_set (set ws i x) (i + 1) y a in
-    let q : take (i + 1) (set ws i x) ≡ take i ws ++ x ∷ [] = take_more_set ws i x b in
-    ap (λ (n : ℕ). take n (set (set ws i x) (i + 1) y)) e ∙ p ∙ ap (λ (z : List ℕ). z ++ y ∷ []) q ∙ append_assoc (take i ws) (x ∷ []) (y ∷ [])
-
-pub end_last-take : (ts : List PathTag) (n : ℕ) → 0 < n → n ≤ length ts → take n (set ts (n - 1) (ended (get_or ts (n - 1) (tag 0)))) ≡ end_last (take n ts)
-unfolding end_last
-end_last-take ts n h k =
-    let l : length (take n ts) ≡ n = length-take-le n ts k in
-    let m : n - 1 < n = omega arith in
-    let g : get_or (take n ts) (n - 1) (tag 0) ≡ get_or ts (n - 1) (tag 0) = get_or-take n ts (n - 1) (tag 0) m in
-    let s : take n (set ts (n - 1) (ended (get_or ts (n - 1) (tag 0)))) ≡ set (take n ts) (n - 1) (ended (get_or ts (n - 1) (tag 0))) = take-set-lt n ts (n - 1) _ m in
-    cc
-
-pub last_point-take : (ws : List ℕ) (n : ℕ) (p : Point) → 2 ≤ n → n ≤ length ws → p.x ≡ get_or ws (n - 2) 0 → p.y ≡ get_or ws (n - 1) 0 → p ≡ last_point (take n ws)
-unfolding last_point
-last_point-take ws n p h k ex ey =
-    let l : length (take n ws) ≡ n = length-take-le n ws k in
-    let a : n - 1 < n = omega arith in
-    let b : n - 2 < n = omega arith in
-    let g : get_or (take n ws) (n - 1) 0 ≡ get_or ws (n - 1) 0 = get_or-take n ws (n - 1) 0 a in
-    let f : get_or (take n ws) (n - 2) 0 ≡ get_or ws (n - 2) 0 = get_or-take n ws (n - 2) 0 b in
-    let u : p.x ≡ get_or (take n ws) (length (take n ws) - 2) 0 = cc in
-    let v : p.y ≡ get_or (take n ws) (length (take n ws) - 1) 0 = cc in
-    λ i. record { x = u i; y = v i }
-
 pub drop-point-take : (ws : List ℕ) (n : ℕ) → n ≤ length ws → take (n - 2) ws ≡ drop_point (take n ws)
 unfolding drop_point
 drop-point-take ws n h =

@@ -12,8 +12,7 @@ pub(crate) fn write_point(words: &mut [u32], at: usize, p: Point) -> usize
     ensures used { result ≡ at + 2 }
     ensures holds { take result words.new ≡ take at words.old ++ point_words p }
 {
-    words[at] = p.x;
-    words[at + 1] = p.y;
+    words[at..at + 2].copy_from_slice(&[p.x, p.y]);
     at + 2
 }
 
@@ -76,12 +75,12 @@ pub(crate) fn write_tag(tags: &mut [PathTag], at: usize, tag: PathTag) -> usize
     at + 1
 }
 
-// Makes the last of the first `n` tags end its subpath.
-pub(crate) fn end_last(tags: &mut [PathTag], n: usize)
-    requires { (0 < n) × (n ≤ length tags.old) }
-    ensures { take n tags.new ≡ end_last (take n tags.old) }
+// Makes the last tag end its subpath.
+pub(crate) fn end_last(tags: &mut [PathTag])
+    requires { 0 < length tags.old }
+    ensures { tags.new ≡ end_last tags.old }
 {
-    tags[n - 1].set_subpath_end();
+    tags[tags.len() - 1].set_subpath_end();
 }
 
 // Ends the path of the first `n` tags, if there is one: the last ends its subpath, and the path's tag may follow.
@@ -94,7 +93,7 @@ pub(crate) fn end_path(tags: &mut [PathTag], n: usize, insert_path_marker: bool)
     if n == 0 {
         return 0;
     }
-    end_last(tags, n);
+    end_last(&mut tags[..n]);
     if insert_path_marker {
         tags[n] = PathTag::PATH;
         return n + 1;
@@ -102,13 +101,13 @@ pub(crate) fn end_path(tags: &mut [PathTag], n: usize, insert_path_marker: bool)
     n
 }
 
-// The point in the last two of the first `n` words.
-pub(crate) fn last_point(words: &[u32], n: usize) -> Point
-    requires { (2 ≤ n) × (n ≤ length words.now) }
-    ensures { result ≡ last_point (take n words.now) }
+// The point in the last two words.
+pub(crate) fn last_point(words: &[u32]) -> Point
+    requires { 2 ≤ length words.now }
+    ensures { result ≡ last_point words.now }
 {
     Point {
-        x: words[n - 2],
-        y: words[n - 1],
+        x: words[words.len() - 2],
+        y: words[words.len() - 1],
     }
 }

@@ -24,6 +24,7 @@ pub enum Call {
     Finish(bool),
 }
 
+// A path has these two streams alone, which a type of their own says; an Encoding has six.
 /// The two streams that a path is written to, the lower first.
 #[derive(Clone, Copy, PartialEq, Eq, Debug)]
 pub enum Stream {

@@ -31,7 +31,7 @@ impl OpenPath {
         requires point { 2 ≤ self.old.words }
         ensures { Does (put (C.Curve.segment s)) (lent self.old tags.old words.old) (lent self.new tags.new words.new) }
     {
-        if s.is_short(last_point(words, self.words)) {
+        if s.is_short(last_point(&words[..self.words])) {
             return;
         }
         self.write(tags, words, s);
@@ -43,7 +43,7 @@ impl OpenPath {
         requires point { 2 ≤ self.old.words }
         ensures { Does join (lent self.old tags.old words.old) (lent self.new tags.new words.new) }
     {
-        if last_point(words, self.words) == self.first_point {
+        if last_point(&words[..self.words]) == self.first_point {
             return;
         }
         self.write(tags, words, Line(self.first_point));
@@ -94,7 +94,7 @@ impl OpenPath {
         requires drawn { self.old.state ≡ NonemptySubpath }
         ensures { Does mark_end (lent self.old tags.old words.old) (lent self.new tags.new words.new) }
     {
-        end_last(tags, self.tags);
+        end_last(&mut tags[..self.tags]);
         self.state = PathState::Start;
     }
 

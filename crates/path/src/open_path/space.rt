@@ -16,12 +16,12 @@ const MOST_TAGS: usize = 3;
 
 const MOST_WORDS: usize = 8;
 
-// Copies the last `k` of the first `n` entries to the front of `to`.
-fn copy_last<T: Copy>(from: &[T], n: usize, k: usize, to: &mut [T])
-    requires { (k ≤ n) × ((n ≤ length from.now) × (k ≤ length to.old)) }
-    ensures { take (n - k) from.now ++ take k to.new ≡ take n from.now }
+// Copies the last `k` entries to the front of `to`.
+fn copy_last<T: Copy>(from: &[T], k: usize, to: &mut [T])
+    requires { (k ≤ length from.now) × (k ≤ length to.old) }
+    ensures { take (length from.now - k) from.now ++ take k to.new ≡ from.now }
 {
-    to[0..k].copy_from_slice(&from[n - k..n]);
+    to[..k].copy_from_slice(&from[from.len() - k..]);
 }
 
 // The lowest stream of so many entries that the used ones pass.
@@ -58,10 +58,11 @@ impl OpenPath {
     {
         let t = self.tags.min(1);
         let w = self.words.min(2);
-        let mut last_tags = [PathTag(0); 4];
-        let mut last_words = [0u32; 10];
-        copy_last(tags, self.tags, t, &mut last_tags);
-        copy_last(words, self.words, w, &mut last_words);
+        let mut last_tags = [PathTag(0); MOST_TAGS + 1];
+        let mut last_words = [0; MOST_WORDS + 2];
+        copy_last(&tags[..self.tags], t, &mut last_tags);
+        copy_last(&words[..self.words], w, &mut last_words);
+        // A struct with ghost fields has no `..*self`, and if paths were Copy a finished one could be drawn on.
         let mut path = OpenPath {
             state: self.state,
             moved: self.moved,

@@ -1,6 +1,6 @@
 -- The tags of a path that ends.
-use Rattle.std.proofs.Common.{arith}
-use Rattle.path.proofs.Finish.{Ends, end_none, end-room, end-tag, end_plain}
+use Rattle.std.proofs.Common.{◌++◌, drop, arith}
+use Rattle.path.proofs.Finish.{Ends, end_none, end-room, end-tag, end_plain, ended-front}
 use Rattle.path.proofs.entries.end_path.Goals as goal
 
 pub returns-then-n-eq0 : goal.returns-then-n-eq0
@@ -16,10 +16,12 @@ bounds-tags-n c =
 pub returns-then-insert_path_marker : goal.returns-then-insert_path_marker
 returns-then-insert_path_marker c =
     let h = end-room c.args.insert_path_marker c.args.tags.now c.args.n c.if-insert_path_marker.true (omega arith) c.requires.fits c.requires.room in
-    let e = end-tag c.args.insert_path_marker c.args.tags.now c.end_last.new.tags c.args.n c.if-insert_path_marker.true (omega arith) c.requires.fits (omega arith) c.end_last.ensures in
+    let f = ended-front c.args.tags.now c.end_last.new.tags c.args.n c.requires.fits c.end_last.ensures in
+    let e = end-tag c.args.insert_path_marker c.args.tags.now (c.end_last.new.tags ++ drop c.args.n c.args.tags.now) c.args.n c.if-insert_path_marker.true (omega arith) c.requires.fits (omega (arith, f.1)) f.0 in
     record { used = e.used; holds = e.holds }
 
 pub returns : goal.returns
 returns c =
-    let e = end_plain c.args.insert_path_marker c.args.tags.now c.end_last.new.tags c.args.n c.if-insert_path_marker.false (omega arith) c.requires.fits c.end_last.ensures in
+    let f = ended-front c.args.tags.now c.end_last.new.tags c.args.n c.requires.fits c.end_last.ensures in
+    let e = end_plain c.args.insert_path_marker c.args.tags.now (c.end_last.new.tags ++ drop c.args.n c.args.tags.now) c.args.n c.if-insert_path_marker.false (omega arith) c.requires.fits f.0 in
     record { used = e.used; holds = e.holds }

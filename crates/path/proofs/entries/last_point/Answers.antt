@@ -1,7 +1,8 @@
 -- The point in the last two words.
-use Rattle.std.proofs.Common.{rules}
-use Rattle.path.proofs.Lists.{last_point-take}
+use Rattle.std.proofs.Common.{refl}
+use Rattle.path.specs.Entries.{last_point}
 use Rattle.path.proofs.entries.last_point.Goals as goal
 
 pub returns : goal.returns
-returns c = search (rules, last_point-take)
+unfolding last_point
+returns c = refl

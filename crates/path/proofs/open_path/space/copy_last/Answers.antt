@@ -4,4 +4,4 @@ use Rattle.path.proofs.Copy.{whole}
 use Rattle.path.proofs.open_path.space.copy_last.Goals as goal
 
 pub returns : goal.returns
-returns g c = whole c.args.from.now c.copy_from_slice.new.self _ c.args.n c.args.k (omega arith) (omega arith) c.copy_from_slice.ensures.after
+returns g c = whole c.args.from.now c.copy_from_slice.new.self _ c.args.k (omega arith) c.copy_from_slice.ensures.after
