@@ -3,11 +3,11 @@ use Rattle.std.proofs.Common.{◌≡◌, Bool, true, false, cond, ◌≢◌, Opt
 use Rattle.geometry.specs.declared.points.Point.{Point}
 use Rattle.geometry.specs.declared.points.Segment.{Segment}
 use Rattle.geometry.specs.declared.points.Segment.TheVariants.{Line}
-use Rattle.geometry.specs.Segments.{tangent_end, too_short, same_point, end_point}
+use Rattle.geometry.specs.Segments.{tangent_end, too_short, same_point}
 use Rattle.path.specs.declared.state.PathState.{PathState}
 use Rattle.path.specs.declared.state.PathState.TheVariants.{Start, MoveTo, NonemptySubpath}
 use Rattle.path.specs.Entries.{last_point}
-use Rattle.path.specs.Rules.{Path, write, put, join, mark_end, put_marker, close, close_in, leave, leave_in, move_to, put_first, draw, draw_in, segment_to, segment_in}
+use Rattle.path.specs.Rules.{Path, write, put, join, mark_end, put_marker, close, close_in, leave, leave_in, put_first, draw, draw_in, segment_to, segment_in}
 
 pub put-short : (s : Segment) (m : Path) → too_short (last_point m.own.words) s ≡ true → put s m ≡ m
 unfolding put
@@ -64,20 +64,6 @@ draw_later s m h k = draw-at m.state s m refl ∙ later m.state s m h k
 pub segment-at : (z : PathState) (s : Segment) (m : Path) → m.state ≡ z → segment_to s m ≡ segment_in z s m
 unfolding segment_to
 segment-at z s m h = ap (λ x. segment_in x s m) h
-
-pub segment_again : (s : Segment) (m : Path) → m.state ≡ Start → m.moved ≡ true → segment_to s m ≡ draw s (move_to m.first m)
-segment_again s m h f = segment-at Start s m h ∙ ap (λ b. cond b (draw s (move_to m.first m)) (move_to (end_point s) m)) f
-
-pub segment-first : (s : Segment) (m : Path) → m.state ≡ Start → m.moved ≡ false → segment_to s m ≡ move_to (end_point s) m
-segment-first s m h f = segment-at Start s m h ∙ ap (λ b. cond b (draw s (move_to m.first m)) (move_to (end_point s) m)) f
-
-begun : (z : PathState) (s : Segment) (m : Path) → z ≢ Start → segment_in z s m ≡ draw s m
-begun Start s m h = absurd (h refl)
-begun MoveTo s m h = refl
-begun NonemptySubpath s m h = refl
-
-pub segment_begun : (s : Segment) (m : Path) → m.state ≢ Start → segment_to s m ≡ draw s m
-segment_begun s m h = segment-at m.state s m refl ∙ begun m.state s m h
 
 -- in an open subpath a segment call keeps or drops its segment, and nothing more
 pub segment_open : (s : Segment) (m : Path) → m.state ≡ NonemptySubpath → segment_to s m ≡ put s m

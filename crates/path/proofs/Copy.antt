@@ -4,27 +4,14 @@ use Rattle.std.specs.List.{between}
 use Rattle.std.proofs.lemmas.List.Edits.{length-between}
 use Rattle.std.proofs.lemmas.List.{length-take-le, take-append-drop, take-take, take_all}
 use Rattle.std.proofs.lemmas.Bool.{cond_above}
-use Rattle.path.specs.declared.state.PathState.{PathState}
-use Rattle.path.specs.declared.state.PathState.TheVariants.{Start, MoveTo, NonemptySubpath}
 use Rattle.path.specs.declared.state.Call.{Call}
 use Rattle.path.specs.declared.state.Used.{Used}
 use Rattle.path.specs.declared.state.Stream.TheVariants.{PathTags, PathData}
-use Rattle.path.specs.States.{by_state}
 use Rattle.path.specs.Rules.{Own, call}
 use Rattle.path.specs.Space.{used_by, lacks}
 use Rattle.path.specs.View.{Lent, view, Held, Room, Ready, Does}
 use Rattle.path.proofs.Frame.{under, Sound, local}
 use Rattle.path.proofs.Most.{most}
-
-pub at_most_two : (z : PathState) → by_state 0 2 2 z ≤ 2
-at_most_two Start = omega arith
-at_most_two MoveTo = omega arith
-at_most_two NonemptySubpath = omega arith
-
-pub at_most_one : (z : PathState) → by_state 0 0 1 z ≤ 1
-at_most_one Start = omega arith
-at_most_one MoveTo = omega arith
-at_most_one NonemptySubpath = omega arith
 
 -- as many own entries as are in use
 pub own-used : (a : Lent) → Held a → used_by (view a) ≡ record { tags = a.path.tags; words = a.path.words }

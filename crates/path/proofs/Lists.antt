@@ -49,10 +49,6 @@ pub drop-point-one : (p : Point) → drop_point (point_words p) ≡ []
 unfolding drop_point
 drop-point-one p = refl
 
-pub last_point-one : (p : Point) → last_point (point_words p) ≡ p
-unfolding last_point
-last_point-one p = refl
-
 pub last_point-segment : (s : Segment) → last_point (segment_words s) ≡ end_point s
 unfolding last_point
 last_point-segment (Line p) = refl
