@@ -1,6 +1,9 @@
 // Draw and clip commands, by the space that they are lent.
-use crate::answers::{ACCEPTED, NO_STREAM, answer};
 use encoding::encoding::Encoding;
+use encoding::error::EncodeError::{
+    self, FullStream as Full, NoOpenClip, NotFinite, ShortStream as Short,
+};
+use encoding::error::Stream::{DrawData, DrawTags, PathTags};
 use monoid::draw::DrawTag;
 use monoid::path::PathTag;
 
@@ -12,7 +15,7 @@ enum Command {
 }
 
 // The command, first or after two colours, with so many draw tags and words of draw data.
-fn drawn(first: bool, command: Command, tags: usize, words: usize) -> (u32, u32) {
+fn drawn(first: bool, command: Command, tags: usize, words: usize) -> Result<(), EncodeError> {
     let mut draw_tags = [DrawTag::NOP; 4];
     let mut draw_data = [0u32; 8];
     let mut encoding = Encoding::new();
@@ -37,41 +40,47 @@ fn last_command(
     tags: &mut [DrawTag],
     words: &mut [u32],
     command: Command,
-) -> (u32, u32) {
+) -> Result<(), EncodeError> {
     match command {
-        Command::Color => answer(encoding.encode_color(tags, words, 7)),
-        Command::Blur(x) => answer(encoding.encode_blurred_rounded_rect(
-            tags, words, 7, 1.0, 1.0, x, 1.0,
-        )),
-        Command::BeginClip(x) => answer(encoding.encode_begin_clip(tags, words, 0, 3, x)),
+        Command::Color => encoding.encode_color(tags, words, 7),
+        Command::Blur(x) => {
+            encoding.encode_blurred_rounded_rect(tags, words, 7, 1.0, 1.0, x, 1.0)
+        }
+        Command::BeginClip(x) => encoding.encode_begin_clip(tags, words, 0, 3, x),
     }
 }
 
 const INFINITE: f32 = 1.0 / 0.0;
 
 // First or not, the command, draw tags, words, and the answer.
-const COMMANDS: [(bool, Command, usize, usize, (u32, u32)); 21] = [
-    (true, Command::Color, 1, 1, ACCEPTED),
-    (true, Command::Color, 0, 1, (2, 2)),
-    (true, Command::Color, 1, 0, (2, 3)),
-    (true, Command::Color, 0, 0, (2, 2)),
-    (true, Command::Blur(1.0), 1, 5, ACCEPTED),
-    (true, Command::Blur(1.0), 0, 5, (2, 2)),
-    (true, Command::Blur(1.0), 1, 4, (2, 3)),
-    (true, Command::Blur(1.0), 0, 4, (2, 2)),
-    (true, Command::Blur(INFINITE), 0, 0, (3, NO_STREAM)),
-    (true, Command::BeginClip(1.0), 1, 2, ACCEPTED),
-    (true, Command::BeginClip(1.0), 0, 2, (2, 2)),
-    (true, Command::BeginClip(1.0), 1, 1, (2, 3)),
-    (true, Command::BeginClip(1.0), 0, 1, (2, 2)),
-    (true, Command::BeginClip(INFINITE), 0, 0, (3, NO_STREAM)),
-    (false, Command::Color, 3, 3, ACCEPTED),
-    (false, Command::Color, 2, 2, (2, 2)),
-    (false, Command::Color, 1, 2, (1, 2)),
-    (false, Command::Color, 2, 1, (1, 3)),
-    (false, Command::Blur(INFINITE), 1, 1, (1, 2)),
-    (false, Command::BeginClip(INFINITE), 2, 1, (1, 3)),
-    (false, Command::BeginClip(INFINITE), 2, 2, (3, NO_STREAM)),
+const COMMANDS: [(bool, Command, usize, usize, Result<(), EncodeError>); 21] = [
+    (true, Command::Color, 1, 1, Ok(())),
+    (true, Command::Color, 0, 1, Err(Full(DrawTags))),
+    (true, Command::Color, 1, 0, Err(Full(DrawData))),
+    (true, Command::Color, 0, 0, Err(Full(DrawTags))),
+    (true, Command::Blur(1.0), 1, 5, Ok(())),
+    (true, Command::Blur(1.0), 0, 5, Err(Full(DrawTags))),
+    (true, Command::Blur(1.0), 1, 4, Err(Full(DrawData))),
+    (true, Command::Blur(1.0), 0, 4, Err(Full(DrawTags))),
+    (true, Command::Blur(INFINITE), 0, 0, Err(NotFinite)),
+    (true, Command::BeginClip(1.0), 1, 2, Ok(())),
+    (true, Command::BeginClip(1.0), 0, 2, Err(Full(DrawTags))),
+    (true, Command::BeginClip(1.0), 1, 1, Err(Full(DrawData))),
+    (true, Command::BeginClip(1.0), 0, 1, Err(Full(DrawTags))),
+    (true, Command::BeginClip(INFINITE), 0, 0, Err(NotFinite)),
+    (false, Command::Color, 3, 3, Ok(())),
+    (false, Command::Color, 2, 2, Err(Full(DrawTags))),
+    (false, Command::Color, 1, 2, Err(Short(DrawTags))),
+    (false, Command::Color, 2, 1, Err(Short(DrawData))),
+    (false, Command::Blur(INFINITE), 1, 1, Err(Short(DrawTags))),
+    (
+        false,
+        Command::BeginClip(INFINITE),
+        2,
+        1,
+        Err(Short(DrawData)),
+    ),
+    (false, Command::BeginClip(INFINITE), 2, 2, Err(NotFinite)),
 ];
 
 #[test]
@@ -111,29 +120,29 @@ fn clipped(
 }
 
 // An end of a clip, with so many path tags and draw tags.
-fn ended(clips: Clips, marks: usize, tags: usize) -> (u32, u32) {
+fn ended(clips: Clips, marks: usize, tags: usize) -> Result<(), EncodeError> {
     let mut path_tags = [PathTag(0); 4];
     let mut draw_tags = [DrawTag::NOP; 4];
     let mut draw_data = [0u32; 8];
     let mut encoding = clipped(clips, &mut path_tags, &mut draw_tags, &mut draw_data);
-    answer(encoding.encode_end_clip(
+    encoding.encode_end_clip(
         &mut path_tags[0..marks.min(4)],
         &mut draw_tags[0..tags.min(4)],
-    ))
+    )
 }
 
 // The clips before, path tags, draw tags, and the answer.
-const ENDS: [(Clips, usize, usize, (u32, u32)); 10] = [
-    (Clips::Open, 1, 2, ACCEPTED),
-    (Clips::Open, 0, 2, (2, 0)),
-    (Clips::Open, 1, 1, (2, 2)),
-    (Clips::Open, 0, 1, (2, 0)),
-    (Clips::Open, 0, 0, (1, 2)),
-    (Clips::None, 0, 0, (5, NO_STREAM)),
-    (Clips::Ended, 1, 2, (5, NO_STREAM)),
-    (Clips::Ended, 0, 0, (1, 0)),
-    (Clips::Ended, 1, 1, (1, 2)),
-    (Clips::Ended, 0, 2, (1, 0)),
+const ENDS: [(Clips, usize, usize, Result<(), EncodeError>); 10] = [
+    (Clips::Open, 1, 2, Ok(())),
+    (Clips::Open, 0, 2, Err(Full(PathTags))),
+    (Clips::Open, 1, 1, Err(Full(DrawTags))),
+    (Clips::Open, 0, 1, Err(Full(PathTags))),
+    (Clips::Open, 0, 0, Err(Short(DrawTags))),
+    (Clips::None, 0, 0, Err(NoOpenClip)),
+    (Clips::Ended, 1, 2, Err(NoOpenClip)),
+    (Clips::Ended, 0, 0, Err(Short(PathTags))),
+    (Clips::Ended, 1, 1, Err(Short(DrawTags))),
+    (Clips::Ended, 0, 2, Err(Short(PathTags))),
 ];
 
 #[test]

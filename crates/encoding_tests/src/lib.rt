@@ -2,11 +2,11 @@
 #![tactic(auto)]
 
 #[cfg(test)]
-mod answers;
-#[cfg(test)]
 mod drawing;
 #[cfg(test)]
 mod maxima;
+#[cfg(test)]
+mod numbers;
 #[cfg(test)]
 mod paths;
 #[cfg(test)]

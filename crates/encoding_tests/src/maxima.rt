@@ -1,7 +1,6 @@
 // Streams at their maxima, with space beyond.
-use crate::answers::{answer, truth};
 use encoding::encoding::Encoding;
-use encoding::error::Stream;
+use encoding::error::{EncodeError, Stream};
 use encoding::transform::Transform;
 use monoid::draw::DrawTag;
 use monoid::path::PathTag;
@@ -32,8 +31,8 @@ fn colours(rt: HostRuntime) -> Result<(), Fail> {
         );
     }
     assert_eq!(rt; encoding.stream_offsets().draw_tags, most);
-    let more = answer(encoding.encode_color(tags.as_mut_slice(), words.as_mut_slice(), 7));
-    assert_eq!(rt; more, (2, 2));
+    let more = encoding.encode_color(tags.as_mut_slice(), words.as_mut_slice(), 7);
+    assert_eq!(rt; more, Err(EncodeError::FullStream(Stream::DrawTags)));
     Ok(())
 }
 
@@ -56,10 +55,11 @@ fn transforms(rt: HostRuntime) -> Result<(), Fail> {
                 .is_ok()
         );
     }
-    let again = truth(encoding.encode_transform(tags.as_mut_slice(), entries.as_mut_slice(), unit));
+    let again = encoding.encode_transform(tags.as_mut_slice(), entries.as_mut_slice(), unit);
     encoding.force_next_transform_and_style();
-    let more = truth(encoding.encode_transform(tags.as_mut_slice(), entries.as_mut_slice(), unit));
-    assert_eq!(rt; (again, more), ((0, 0), (2, 0)));
+    let more = encoding.encode_transform(tags.as_mut_slice(), entries.as_mut_slice(), unit);
+    assert_eq!(rt; again, Ok(false));
+    assert_eq!(rt; more, Err(EncodeError::FullStream(Stream::PathTags)));
     Ok(())
 }
 
@@ -71,26 +71,23 @@ fn subpaths(rt: HostRuntime) -> Result<(), Fail> {
     let mut tags = vec![in rt.alloc(); PathTag(0); 1_048_580]?;
     let mut words = vec![in rt.alloc(); 0u32; 8_388_620]?;
     let mut path = Encoding::new().encode_path(true);
-    let mut declined = 0u32;
+    let mut declined = false;
     for _ in 0..most {
         let tags = tags.as_mut_slice();
         let words = words.as_mut_slice();
-        if path.move_to(tags, words, 0.0, 0.0).is_err() {
-            declined = 1;
-        }
-        if path
+        declined |= path.move_to(tags, words, 0.0, 0.0).is_err();
+        declined |= path
             .cubic_to(tags, words, 1.0, 1.0, 2.0, 1.0, 0.0, 0.0)
-            .is_err()
-        {
-            declined = 1;
-        }
+            .is_err();
     }
     let tags = tags.as_mut_slice();
     let words = words.as_mut_slice();
-    let closed = answer(path.close(tags, words));
-    let moved = answer(path.move_to(tags, words, 0.0, 0.0));
+    let closed = path.close(tags, words);
+    let moved = path.move_to(tags, words, 0.0, 0.0);
     let used = path.abandon().stream_offsets();
-    assert_eq!(rt; (declined, closed, moved), (0, (0, 0), (2, 1)));
+    assert!(rt; !declined);
+    assert_eq!(rt; closed, Ok(()));
+    assert_eq!(rt; moved, Err(EncodeError::FullStream(Stream::PathData)));
     assert_eq!(rt; used.path_tags, 0);
     Ok(())
 }

@@ -1,6 +1,8 @@
 // Path calls, by the space that they are lent.
-use crate::answers::{ACCEPTED, NO_STREAM, answer, refusal};
+use encoding::element::PathEl;
 use encoding::encoding::Encoding;
+use encoding::error::EncodeError::{self, FullStream as Full, NotFinite, ShortStream as Short};
+use encoding::error::Stream::{PathData, PathTags};
 use encoding::path_encoder::PathEncoder;
 use monoid::path::PathTag;
 
@@ -30,32 +32,41 @@ fn opened(is_fill: bool, stage: Stage, tags: &mut [PathTag], words: &mut [u32]) 
     }
 }
 
-#[derive(Clone, Copy)]
-enum Step {
-    Move(f32),
-    Line(f32),
-    Quad(f32),
-    Cubic(f32),
-    Close,
-}
+// Elements that end at 1.0, 1.0, and those that end beyond every number.
+const MOVE: PathEl = PathEl::MoveTo(1.0, 1.0);
 
+const LINE: PathEl = PathEl::LineTo(1.0, 1.0);
+
+const QUAD: PathEl = PathEl::QuadTo(2.0, 2.0, 1.0, 1.0);
+
+const CUBIC: PathEl = PathEl::CurveTo(2.0, 2.0, 3.0, 3.0, 1.0, 1.0);
+
+const FAR_MOVE: PathEl = PathEl::MoveTo(INFINITE, 1.0);
+
+const FAR_LINE: PathEl = PathEl::LineTo(INFINITE, 1.0);
+
+const FAR_QUAD: PathEl = PathEl::QuadTo(2.0, 2.0, INFINITE, 1.0);
+
+const FAR_CUBIC: PathEl = PathEl::CurveTo(2.0, 2.0, 3.0, 3.0, INFINITE, 1.0);
+
+// The element by the path call of its own, not by `encode_element`.
 fn taken(
     path: &mut PathEncoder,
-    step: Step,
+    step: PathEl,
     tags: &mut [PathTag],
     words: &mut [u32],
-) -> (u32, u32) {
+) -> Result<(), EncodeError> {
     match step {
-        Step::Move(x) => answer(path.move_to(tags, words, x, 1.0)),
-        Step::Line(x) => answer(path.line_to(tags, words, x, 1.0)),
-        Step::Quad(x) => answer(path.quad_to(tags, words, 2.0, 2.0, x, 1.0)),
-        Step::Cubic(x) => answer(path.cubic_to(tags, words, 2.0, 2.0, 3.0, 3.0, x, 1.0)),
-        Step::Close => answer(path.close(tags, words)),
+        PathEl::MoveTo(x, y) => path.move_to(tags, words, x, y),
+        PathEl::LineTo(x, y) => path.line_to(tags, words, x, y),
+        PathEl::QuadTo(x1, y1, x, y) => path.quad_to(tags, words, x1, y1, x, y),
+        PathEl::CurveTo(x1, y1, x2, y2, x, y) => path.cubic_to(tags, words, x1, y1, x2, y2, x, y),
+        PathEl::ClosePath => path.close(tags, words),
     }
 }
 
 // The step on a stroke, with so many path tags and words of path data.
-fn stroked(stage: Stage, step: Step, tags: usize, words: usize) -> (u32, u32) {
+fn stroked(stage: Stage, step: PathEl, tags: usize, words: usize) -> Result<(), EncodeError> {
     let mut path_tags = [PathTag(0); 4];
     let mut path_data = [0u32; 16];
     let mut path = opened(false, stage, &mut path_tags, &mut path_data);
@@ -67,58 +78,58 @@ fn stroked(stage: Stage, step: Step, tags: usize, words: usize) -> (u32, u32) {
 }
 
 // The stage, the step, path tags, words, and the answer.
-const OPENED: [(Stage, Step, usize, usize, (u32, u32)); 8] = [
-    (Stage::Opened, Step::Move(1.0), 0, 2, ACCEPTED),
-    (Stage::Opened, Step::Move(1.0), 0, 1, (2, 1)),
-    (Stage::Opened, Step::Move(INFINITE), 0, 0, (3, NO_STREAM)),
-    (Stage::Opened, Step::Line(1.0), 0, 2, ACCEPTED),
-    (Stage::Opened, Step::Quad(1.0), 0, 1, (2, 1)),
-    (Stage::Opened, Step::Cubic(1.0), 0, 2, ACCEPTED),
-    (Stage::Opened, Step::Cubic(INFINITE), 0, 0, (3, NO_STREAM)),
-    (Stage::Opened, Step::Close, 0, 0, ACCEPTED),
+const OPENED: [(Stage, PathEl, usize, usize, Result<(), EncodeError>); 8] = [
+    (Stage::Opened, MOVE, 0, 2, Ok(())),
+    (Stage::Opened, MOVE, 0, 1, Err(Full(PathData))),
+    (Stage::Opened, FAR_MOVE, 0, 0, Err(NotFinite)),
+    (Stage::Opened, LINE, 0, 2, Ok(())),
+    (Stage::Opened, QUAD, 0, 1, Err(Full(PathData))),
+    (Stage::Opened, CUBIC, 0, 2, Ok(())),
+    (Stage::Opened, FAR_CUBIC, 0, 0, Err(NotFinite)),
+    (Stage::Opened, PathEl::ClosePath, 0, 0, Ok(())),
 ];
 
 // A segment wants a tag and its points; a move or a close takes the lone point back first.
-const MOVED: [(Stage, Step, usize, usize, (u32, u32)); 21] = [
-    (Stage::Moved, Step::Move(1.0), 0, 2, ACCEPTED),
-    (Stage::Moved, Step::Move(1.0), 0, 1, (1, 1)),
-    (Stage::Moved, Step::Move(INFINITE), 0, 1, (1, 1)),
-    (Stage::Moved, Step::Move(INFINITE), 0, 2, (3, NO_STREAM)),
-    (Stage::Moved, Step::Line(1.0), 1, 4, ACCEPTED),
-    (Stage::Moved, Step::Line(1.0), 0, 4, (2, 0)),
-    (Stage::Moved, Step::Line(1.0), 1, 3, (2, 1)),
-    (Stage::Moved, Step::Line(1.0), 0, 3, (2, 0)),
-    (Stage::Moved, Step::Line(INFINITE), 0, 2, (3, NO_STREAM)),
-    (Stage::Moved, Step::Line(INFINITE), 0, 1, (1, 1)),
-    (Stage::Moved, Step::Quad(1.0), 1, 6, ACCEPTED),
-    (Stage::Moved, Step::Quad(1.0), 0, 6, (2, 0)),
-    (Stage::Moved, Step::Quad(1.0), 1, 5, (2, 1)),
-    (Stage::Moved, Step::Quad(1.0), 0, 5, (2, 0)),
-    (Stage::Moved, Step::Quad(INFINITE), 0, 2, (3, NO_STREAM)),
-    (Stage::Moved, Step::Cubic(1.0), 1, 8, ACCEPTED),
-    (Stage::Moved, Step::Cubic(1.0), 0, 8, (2, 0)),
-    (Stage::Moved, Step::Cubic(1.0), 1, 7, (2, 1)),
-    (Stage::Moved, Step::Cubic(1.0), 0, 7, (2, 0)),
-    (Stage::Moved, Step::Close, 0, 2, ACCEPTED),
-    (Stage::Moved, Step::Close, 0, 1, (1, 1)),
+const MOVED: [(Stage, PathEl, usize, usize, Result<(), EncodeError>); 21] = [
+    (Stage::Moved, MOVE, 0, 2, Ok(())),
+    (Stage::Moved, MOVE, 0, 1, Err(Short(PathData))),
+    (Stage::Moved, FAR_MOVE, 0, 1, Err(Short(PathData))),
+    (Stage::Moved, FAR_MOVE, 0, 2, Err(NotFinite)),
+    (Stage::Moved, LINE, 1, 4, Ok(())),
+    (Stage::Moved, LINE, 0, 4, Err(Full(PathTags))),
+    (Stage::Moved, LINE, 1, 3, Err(Full(PathData))),
+    (Stage::Moved, LINE, 0, 3, Err(Full(PathTags))),
+    (Stage::Moved, FAR_LINE, 0, 2, Err(NotFinite)),
+    (Stage::Moved, FAR_LINE, 0, 1, Err(Short(PathData))),
+    (Stage::Moved, QUAD, 1, 6, Ok(())),
+    (Stage::Moved, QUAD, 0, 6, Err(Full(PathTags))),
+    (Stage::Moved, QUAD, 1, 5, Err(Full(PathData))),
+    (Stage::Moved, QUAD, 0, 5, Err(Full(PathTags))),
+    (Stage::Moved, FAR_QUAD, 0, 2, Err(NotFinite)),
+    (Stage::Moved, CUBIC, 1, 8, Ok(())),
+    (Stage::Moved, CUBIC, 0, 8, Err(Full(PathTags))),
+    (Stage::Moved, CUBIC, 1, 7, Err(Full(PathData))),
+    (Stage::Moved, CUBIC, 0, 7, Err(Full(PathTags))),
+    (Stage::Moved, PathEl::ClosePath, 0, 2, Ok(())),
+    (Stage::Moved, PathEl::ClosePath, 0, 1, Err(Short(PathData))),
 ];
 
 // A stroke's close writes a line and a marker, a move an open marker and the point.
-const DRAWN: [(Stage, Step, usize, usize, (u32, u32)); 14] = [
-    (Stage::Drawn, Step::Close, 3, 8, ACCEPTED),
-    (Stage::Drawn, Step::Close, 2, 8, (2, 0)),
-    (Stage::Drawn, Step::Close, 3, 7, (2, 1)),
-    (Stage::Drawn, Step::Close, 2, 7, (2, 0)),
-    (Stage::Drawn, Step::Close, 2, 5, (2, 0)),
-    (Stage::Drawn, Step::Close, 0, 4, (1, 0)),
-    (Stage::Drawn, Step::Close, 1, 3, (1, 1)),
-    (Stage::Drawn, Step::Move(1.0), 2, 10, ACCEPTED),
-    (Stage::Drawn, Step::Move(1.0), 1, 10, (2, 0)),
-    (Stage::Drawn, Step::Move(1.0), 2, 9, (2, 1)),
-    (Stage::Drawn, Step::Move(1.0), 1, 9, (2, 0)),
-    (Stage::Drawn, Step::Line(1.0), 2, 6, ACCEPTED),
-    (Stage::Drawn, Step::Quad(INFINITE), 0, 3, (1, 0)),
-    (Stage::Drawn, Step::Cubic(INFINITE), 1, 4, (3, NO_STREAM)),
+const DRAWN: [(Stage, PathEl, usize, usize, Result<(), EncodeError>); 14] = [
+    (Stage::Drawn, PathEl::ClosePath, 3, 8, Ok(())),
+    (Stage::Drawn, PathEl::ClosePath, 2, 8, Err(Full(PathTags))),
+    (Stage::Drawn, PathEl::ClosePath, 3, 7, Err(Full(PathData))),
+    (Stage::Drawn, PathEl::ClosePath, 2, 7, Err(Full(PathTags))),
+    (Stage::Drawn, PathEl::ClosePath, 2, 5, Err(Full(PathTags))),
+    (Stage::Drawn, PathEl::ClosePath, 0, 4, Err(Short(PathTags))),
+    (Stage::Drawn, PathEl::ClosePath, 1, 3, Err(Short(PathData))),
+    (Stage::Drawn, MOVE, 2, 10, Ok(())),
+    (Stage::Drawn, MOVE, 1, 10, Err(Full(PathTags))),
+    (Stage::Drawn, MOVE, 2, 9, Err(Full(PathData))),
+    (Stage::Drawn, MOVE, 1, 9, Err(Full(PathTags))),
+    (Stage::Drawn, LINE, 2, 6, Ok(())),
+    (Stage::Drawn, FAR_QUAD, 0, 3, Err(Short(PathTags))),
+    (Stage::Drawn, FAR_CUBIC, 1, 4, Err(NotFinite)),
 ];
 
 #[test]
@@ -142,40 +153,45 @@ fn steps_after_a_line(rt: HostRuntime) {
     }
 }
 
-// A finish: 0 and the count, or the refusal.
-fn finished(is_fill: bool, stage: Stage, mark: bool, tags: usize, words: usize) -> (u32, u32) {
+// A finish: the count, or the refusal.
+fn finished(
+    is_fill: bool,
+    stage: Stage,
+    mark: bool,
+    tags: usize,
+    words: usize,
+) -> Result<u32, EncodeError> {
     let mut path_tags = [PathTag(0); 4];
     let mut path_data = [0u32; 16];
     let path = opened(is_fill, stage, &mut path_tags, &mut path_data);
     let tags = &mut path_tags[0..tags.min(4)];
     let words = &mut path_data[0..words.min(16)];
     match path.finish(tags, words, mark) {
-        Ok(done) => (0, done.1),
-        Err(refused) => {
-            let (error, path) = refused;
+        Ok((_, count)) => Ok(count),
+        Err((error, path)) => {
             let _ = path.abandon();
-            refusal(error)
+            Err(error)
         }
     }
 }
 
 // A fill or not, the stage, the path's tag or not, path tags, words, and the answer.
-const FINISHES: [(bool, Stage, bool, usize, usize, (u32, u32)); 15] = [
-    (false, Stage::Drawn, true, 3, 8, (0, 2)),
-    (false, Stage::Drawn, true, 2, 8, (2, 0)),
-    (false, Stage::Drawn, true, 3, 7, (2, 1)),
-    (false, Stage::Drawn, true, 2, 7, (2, 0)),
-    (false, Stage::Drawn, false, 2, 8, (0, 2)),
-    (false, Stage::Drawn, false, 1, 8, (2, 0)),
-    (false, Stage::Drawn, true, 0, 4, (1, 0)),
-    (false, Stage::Drawn, true, 1, 3, (1, 1)),
-    (true, Stage::Drawn, true, 3, 6, (0, 2)),
-    (true, Stage::Drawn, true, 2, 6, (2, 0)),
-    (true, Stage::Drawn, true, 3, 5, (2, 1)),
-    (true, Stage::Drawn, false, 2, 6, (0, 2)),
-    (true, Stage::Moved, true, 0, 2, (0, 0)),
-    (true, Stage::Moved, true, 0, 1, (1, 1)),
-    (false, Stage::Opened, true, 0, 0, (0, 0)),
+const FINISHES: [(bool, Stage, bool, usize, usize, Result<u32, EncodeError>); 15] = [
+    (false, Stage::Drawn, true, 3, 8, Ok(2)),
+    (false, Stage::Drawn, true, 2, 8, Err(Full(PathTags))),
+    (false, Stage::Drawn, true, 3, 7, Err(Full(PathData))),
+    (false, Stage::Drawn, true, 2, 7, Err(Full(PathTags))),
+    (false, Stage::Drawn, false, 2, 8, Ok(2)),
+    (false, Stage::Drawn, false, 1, 8, Err(Full(PathTags))),
+    (false, Stage::Drawn, true, 0, 4, Err(Short(PathTags))),
+    (false, Stage::Drawn, true, 1, 3, Err(Short(PathData))),
+    (true, Stage::Drawn, true, 3, 6, Ok(2)),
+    (true, Stage::Drawn, true, 2, 6, Err(Full(PathTags))),
+    (true, Stage::Drawn, true, 3, 5, Err(Full(PathData))),
+    (true, Stage::Drawn, false, 2, 6, Ok(2)),
+    (true, Stage::Moved, true, 0, 2, Ok(0)),
+    (true, Stage::Moved, true, 0, 1, Err(Short(PathData))),
+    (false, Stage::Opened, true, 0, 0, Ok(0)),
 ];
 
 #[test]

@@ -1,7 +1,6 @@
 // Whole plans: what the streams, the lengths and the counts are after the calls.
-use crate::answers::{answer, refusal, truth};
 use encoding::encoding::{Counts, Encoding, StreamOffsets};
-use encoding::error::EncodeError;
+use encoding::error::{EncodeError, Stream};
 use encoding::path_encoder::PathEncoder;
 use encoding::style::{Cap, Fill, Join, Stroke, Style};
 use encoding::transform::Transform;
@@ -10,30 +9,23 @@ use monoid::path::PathTag;
 use std::process::Abort;
 use std::test::Fail;
 
-fn lengths(o: StreamOffsets) -> (usize, usize, usize, usize, usize, usize) {
-    (
-        o.path_tags,
-        o.path_data,
-        o.draw_tags,
-        o.draw_data,
-        o.transforms,
-        o.styles,
-    )
-}
+// Nothing in use, and nothing counted.
+const UNUSED: StreamOffsets = StreamOffsets {
+    path_tags: 0,
+    path_data: 0,
+    draw_tags: 0,
+    draw_data: 0,
+    transforms: 0,
+    styles: 0,
+};
 
-fn numbers(c: Counts) -> (u32, u32, u32, u32, u32) {
-    (
-        c.n_paths,
-        c.n_path_segments,
-        c.n_clips,
-        c.n_open_clips,
-        c.flags,
-    )
-}
-
-fn first_tags(tags: &[PathTag; 8]) -> (u8, u8, u8, u8) {
-    (tags[0].0, tags[1].0, tags[2].0, tags[3].0)
-}
+const NOTHING: Counts = Counts {
+    n_paths: 0,
+    n_path_segments: 0,
+    n_clips: 0,
+    n_open_clips: 0,
+    flags: 0,
+};
 
 // A triangle: 09 09 0D 10, and back at its first point.
 #[test]
@@ -46,10 +38,27 @@ fn a_filled_triangle(rt: HostRuntime) -> Result<(), Fail> {
     let _ = path.line_to(&mut tags, &mut words, 4.0, 3.0);
     let (encoding, count) = ended(&rt, path.finish(&mut tags, &mut words, true))?;
     assert_eq!(rt; count, 3);
-    assert_eq!(rt; first_tags(&tags), (0x09, 0x09, 0x0d, 0x10));
+    assert_eq!(rt;
+        &tags[..4],
+        [PathTag(0x09), PathTag(0x09), PathTag(0x0d), PathTag(0x10)].as_slice()
+    );
     assert_eq!(rt; (words[6], words[7]), (0, 0));
-    assert_eq!(rt; lengths(encoding.stream_offsets()), (4, 8, 0, 0, 0, 0));
-    assert_eq!(rt; numbers(encoding.counts()), (1, 3, 0, 0, 0));
+    assert_eq!(rt;
+        encoding.stream_offsets(),
+        StreamOffsets {
+            path_tags: 4,
+            path_data: 8,
+            ..UNUSED
+        }
+    );
+    assert_eq!(rt;
+        encoding.counts(),
+        Counts {
+            n_paths: 1,
+            n_path_segments: 3,
+            ..NOTHING
+        }
+    );
     Ok(())
 }
 
@@ -60,20 +69,23 @@ fn ended(
 ) -> Result<(Encoding, u32), Fail> {
     match r {
         Ok(done) => Ok(done),
-        Err(refused) => {
-            let (error, path) = refused;
+        Err((error, path)) => {
             let _ = path.abandon();
-            assert_eq!(rt; refusal(error), (0, 0));
+            assert_eq!(rt; Some(error), None);
             Err(Fail::new("declined"))
         }
     }
 }
 
 // A stroke from 0.0, 0.0 to 3.0, 0.0, with a line that is declined on the way.
-fn interrupted(x: f32, tags: &mut [PathTag], words: &mut [u32]) -> (PathEncoder, (u32, u32)) {
+fn interrupted(
+    x: f32,
+    tags: &mut [PathTag],
+    words: &mut [u32],
+) -> (PathEncoder, Result<(), EncodeError>) {
     let mut path = Encoding::new().encode_path(false);
     let _ = path.move_to(tags, words, 0.0, 0.0);
-    let declined = answer(path.line_to(&mut [], words, x, 0.0));
+    let declined = path.line_to(&mut [], words, x, 0.0);
     let _ = path.line_to(tags, words, 3.0, 0.0);
     (path, declined)
 }
@@ -84,10 +96,21 @@ fn a_path_goes_on_after_a_refusal(rt: HostRuntime) -> Result<(), Fail> {
     let mut words = [0u32; 8];
     let (path, full) = interrupted(2.0, &mut tags, &mut words);
     let (encoding, count) = ended(&rt, path.finish(&mut tags, &mut words, true))?;
-    assert_eq!(rt; (full, count), ((2, 0), 2));
-    assert_eq!(rt; first_tags(&tags), (0x09, 0x0e, 0x10, 0x00));
+    assert_eq!(rt; full, Err(EncodeError::FullStream(Stream::PathTags)));
+    assert_eq!(rt; count, 2);
+    assert_eq!(rt;
+        &tags[..4],
+        [PathTag(0x09), PathTag(0x0e), PathTag(0x10), PathTag(0x00)].as_slice()
+    );
     assert_eq!(rt; (words[2], words[6]), (0x4040_0000, 0x3f80_0000));
-    assert_eq!(rt; lengths(encoding.stream_offsets()), (3, 8, 0, 0, 0, 0));
+    assert_eq!(rt;
+        encoding.stream_offsets(),
+        StreamOffsets {
+            path_tags: 3,
+            path_data: 8,
+            ..UNUSED
+        }
+    );
     Ok(())
 }
 
@@ -99,11 +122,19 @@ fn a_path_is_finished_after_a_refusal(rt: HostRuntime) -> Result<(), Fail> {
     let (path, infinite) = interrupted(1.0 / 0.0, &mut tags, &mut words);
     let path = match path.finish(&mut [PathTag(9), PathTag(0)], &mut words, true) {
         Ok(_) => return Err(Fail::new("a tag is lacking")),
-        Err(refused) => refused.1,
+        Err((_, path)) => path,
     };
     let (encoding, count) = ended(&rt, path.finish(&mut tags, &mut words, true))?;
-    assert_eq!(rt; (infinite, count), ((3, 9), 2));
-    assert_eq!(rt; numbers(encoding.counts()), (1, 2, 0, 0, 0));
+    assert_eq!(rt; infinite, Err(EncodeError::NotFinite));
+    assert_eq!(rt; count, 2);
+    assert_eq!(rt;
+        encoding.counts(),
+        Counts {
+            n_paths: 1,
+            n_path_segments: 2,
+            ..NOTHING
+        }
+    );
     Ok(())
 }
 
@@ -116,12 +147,19 @@ fn a_nan_in_the_last_words(rt: HostRuntime) -> Result<(), Fail> {
     let _ = path.move_to(&mut tags, &mut words, 0.0, 0.0);
     let _ = path.line_to(&mut tags, &mut words, 3.0, 0.0);
     words[2] = 0x7fc0_0000;
-    let dropped = answer(path.line_to(&mut tags, &mut words, 5.0, 0.0));
-    let kept = answer(path.line_to(&mut tags, &mut words, 5.0, 1.0));
+    let dropped = path.line_to(&mut tags, &mut words, 5.0, 0.0);
+    let kept = path.line_to(&mut tags, &mut words, 5.0, 1.0);
     let (encoding, count) = ended(&rt, path.finish(&mut tags, &mut words, false))?;
-    assert_eq!(rt; (dropped, kept), ((0, 0), (0, 0)));
+    assert_eq!(rt; (dropped, kept), (Ok(()), Ok(())));
     assert_eq!(rt; count, 3);
-    assert_eq!(rt; lengths(encoding.stream_offsets()), (3, 10, 0, 0, 0, 0));
+    assert_eq!(rt;
+        encoding.stream_offsets(),
+        StreamOffsets {
+            path_tags: 3,
+            path_data: 10,
+            ..UNUSED
+        }
+    );
     Ok(())
 }
 
@@ -134,8 +172,8 @@ fn an_abandoned_path(rt: HostRuntime) {
     let _ = path.move_to(&mut tags, &mut words, 0.0, 0.0);
     let _ = path.line_to(&mut tags, &mut words, 4.0, 0.0);
     let encoding = path.abandon();
-    assert_eq!(rt; lengths(encoding.stream_offsets()), (0, 0, 0, 0, 0, 0));
-    assert_eq!(rt; numbers(encoding.counts()), (0, 0, 0, 0, 0));
+    assert_eq!(rt; encoding.stream_offsets(), UNUSED);
+    assert_eq!(rt; encoding.counts(), NOTHING);
 }
 
 // A clip, a colour and the clip's end.
@@ -146,20 +184,39 @@ fn a_clipped_colour(rt: HostRuntime) {
     let mut draw_data = [0u32; 4];
     let mut encoding = Encoding::new();
     let _ = encoding.encode_begin_clip(&mut draw_tags, &mut draw_data, 0, 3, 1.0);
-    assert_eq!(rt; numbers(encoding.counts()), (0, 0, 1, 1, 0));
+    assert_eq!(rt;
+        encoding.counts(),
+        Counts {
+            n_clips: 1,
+            n_open_clips: 1,
+            ..NOTHING
+        }
+    );
     let _ = encoding.encode_color(&mut draw_tags, &mut draw_data, 0xff00_00ff);
     let _ = encoding.encode_end_clip(&mut path_tags, &mut draw_tags);
     assert_eq!(rt;
-        (draw_tags[0].0, draw_tags[1].0, draw_tags[2].0),
-        (0x49, 0x44, 0x21)
+        &draw_tags[..3],
+        [DrawTag(0x49), DrawTag(0x44), DrawTag(0x21)].as_slice()
+    );
+    assert_eq!(rt; &draw_data[..3], [3, 0x3f80_0000, 0xff00_00ff].as_slice());
+    assert_eq!(rt; path_tags[0], PathTag(0x10));
+    assert_eq!(rt;
+        encoding.stream_offsets(),
+        StreamOffsets {
+            path_tags: 1,
+            draw_tags: 3,
+            draw_data: 3,
+            ..UNUSED
+        }
     );
     assert_eq!(rt;
-        (draw_data[0], draw_data[1], draw_data[2]),
-        (3, 0x3f80_0000, 0xff00_00ff)
+        encoding.counts(),
+        Counts {
+            n_paths: 1,
+            n_clips: 2,
+            ..NOTHING
+        }
     );
-    assert_eq!(rt; path_tags[0].0, 0x10);
-    assert_eq!(rt; lengths(encoding.stream_offsets()), (1, 0, 3, 3, 0, 0));
-    assert_eq!(rt; numbers(encoding.counts()), (1, 0, 2, 0, 0));
 }
 
 // A transform and a style, forced and not, and a reset.
@@ -181,18 +238,41 @@ fn settings_and_flags(rt: HostRuntime) {
     let mut styles = [Style::from_fill(Fill::NonZero); 4];
     let mut encoding = Encoding::new();
     encoding.force_next_transform_and_style();
-    assert_eq!(rt; numbers(encoding.counts()), (0, 0, 0, 0, 3));
-    let wrote = truth(encoding.encode_transform(&mut path_tags, &mut transforms, unit));
-    assert_eq!(rt; numbers(encoding.counts()), (0, 0, 0, 0, 2));
-    let again = truth(encoding.encode_transform(&mut path_tags, &mut transforms, unit));
-    let stroke = truth(encoding.encode_stroke_style(&mut path_tags, &mut styles, thick));
-    assert_eq!(rt; (wrote, again, stroke), ((0, 1), (0, 0), (0, 1)));
+    assert_eq!(rt;
+        encoding.counts(),
+        Counts {
+            flags: 3,
+            ..NOTHING
+        }
+    );
+    let wrote = encoding.encode_transform(&mut path_tags, &mut transforms, unit);
+    assert_eq!(rt;
+        encoding.counts(),
+        Counts {
+            flags: 2,
+            ..NOTHING
+        }
+    );
+    let again = encoding.encode_transform(&mut path_tags, &mut transforms, unit);
+    let stroke = encoding.encode_stroke_style(&mut path_tags, &mut styles, thick);
+    assert_eq!(rt; (wrote, again, stroke), (Ok(true), Ok(false), Ok(true)));
     assert_eq!(rt; styles[0].flags_and_miter_limit, 0x9600_4400);
-    assert_eq!(rt; first_tags(&path_tags), (0x20, 0x40, 0x00, 0x00));
-    assert_eq!(rt; lengths(encoding.stream_offsets()), (2, 0, 0, 0, 1, 1));
-    assert_eq!(rt; numbers(encoding.counts()), (0, 0, 0, 0, 0));
+    assert_eq!(rt;
+        &path_tags[..4],
+        [PathTag(0x20), PathTag(0x40), PathTag(0x00), PathTag(0x00)].as_slice()
+    );
+    assert_eq!(rt;
+        encoding.stream_offsets(),
+        StreamOffsets {
+            path_tags: 2,
+            transforms: 1,
+            styles: 1,
+            ..UNUSED
+        }
+    );
+    assert_eq!(rt; encoding.counts(), NOTHING);
     encoding.force_next_transform_and_style();
     encoding.reset();
-    assert_eq!(rt; lengths(encoding.stream_offsets()), (0, 0, 0, 0, 0, 0));
-    assert_eq!(rt; numbers(encoding.counts()), (0, 0, 0, 0, 0));
+    assert_eq!(rt; encoding.stream_offsets(), UNUSED);
+    assert_eq!(rt; encoding.counts(), NOTHING);
 }

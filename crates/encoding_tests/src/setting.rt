@@ -1,15 +1,14 @@
 // Transforms and styles, by the space that they are lent.
-use crate::answers::{ACCEPTED, NO_STREAM, answer, truth};
 use encoding::encoding::Encoding;
+use encoding::error::EncodeError::{
+    self, FullStream as Full, NotFinite, ShortStream as Short, ZeroWidth,
+};
+use encoding::error::Stream::{PathTags, Styles, Transforms};
 use encoding::style::{Cap, Fill, Join, Stroke, Style};
 use encoding::transform::Transform;
 use monoid::path::PathTag;
 
 const INFINITE: f32 = 1.0 / 0.0;
-
-const TRUE: (u32, u32) = (0, 1);
-
-const FALSE: (u32, u32) = (0, 0);
 
 fn scaled(x: f32) -> Transform {
     Transform {
@@ -19,7 +18,13 @@ fn scaled(x: f32) -> Transform {
 }
 
 // A transform by `x`, first or after one by 0.0, perhaps forced, with so many path tags and transforms.
-fn moved(first: bool, forced: bool, x: f32, tags: usize, entries: usize) -> (u32, u32) {
+fn moved(
+    first: bool,
+    forced: bool,
+    x: f32,
+    tags: usize,
+    entries: usize,
+) -> Result<bool, EncodeError> {
     let mut path_tags = [PathTag(0); 4];
     let mut transforms = [scaled(0.0); 4];
     let mut encoding = Encoding::new();
@@ -31,26 +36,26 @@ fn moved(first: bool, forced: bool, x: f32, tags: usize, entries: usize) -> (u32
     }
     let tags = &mut path_tags[0..tags.min(4)];
     let entries = &mut transforms[0..entries.min(4)];
-    truth(encoding.encode_transform(tags, entries, scaled(x)))
+    encoding.encode_transform(tags, entries, scaled(x))
 }
 
 // First or not, forced or not, by how much, path tags, transforms, and the answer.
-const TRANSFORMS: [(bool, bool, f32, usize, usize, (u32, u32)); 15] = [
-    (true, false, 0.0, 1, 1, TRUE),
-    (true, false, 0.0, 0, 1, (2, 0)),
-    (true, false, 0.0, 1, 0, (2, 4)),
-    (true, false, 0.0, 0, 0, (2, 0)),
-    (true, false, INFINITE, 0, 0, (3, NO_STREAM)),
-    (false, false, 0.0, 1, 1, FALSE),
-    (false, false, -0.0, 1, 1, FALSE),
-    (false, true, 0.0, 1, 1, (2, 0)),
-    (false, true, 0.0, 2, 2, TRUE),
-    (false, false, 1.0, 2, 2, TRUE),
-    (false, false, 1.0, 2, 1, (2, 4)),
-    (false, false, 0.0, 0, 1, (1, 0)),
-    (false, false, 0.0, 1, 0, (1, 4)),
-    (false, false, INFINITE, 0, 0, (1, 0)),
-    (false, false, INFINITE, 1, 1, (3, NO_STREAM)),
+const TRANSFORMS: [(bool, bool, f32, usize, usize, Result<bool, EncodeError>); 15] = [
+    (true, false, 0.0, 1, 1, Ok(true)),
+    (true, false, 0.0, 0, 1, Err(Full(PathTags))),
+    (true, false, 0.0, 1, 0, Err(Full(Transforms))),
+    (true, false, 0.0, 0, 0, Err(Full(PathTags))),
+    (true, false, INFINITE, 0, 0, Err(NotFinite)),
+    (false, false, 0.0, 1, 1, Ok(false)),
+    (false, false, -0.0, 1, 1, Ok(false)),
+    (false, true, 0.0, 1, 1, Err(Full(PathTags))),
+    (false, true, 0.0, 2, 2, Ok(true)),
+    (false, false, 1.0, 2, 2, Ok(true)),
+    (false, false, 1.0, 2, 1, Err(Full(Transforms))),
+    (false, false, 0.0, 0, 1, Err(Short(PathTags))),
+    (false, false, 0.0, 1, 0, Err(Short(Transforms))),
+    (false, false, INFINITE, 0, 0, Err(Short(PathTags))),
+    (false, false, INFINITE, 1, 1, Err(NotFinite)),
 ];
 
 #[test]
@@ -61,7 +66,12 @@ fn transforms(rt: HostRuntime) {
 }
 
 // An even-odd fill, first or after a fill of either kind, with so many path tags and styles.
-fn filled(before: Option<Fill>, forced: bool, tags: usize, entries: usize) -> (u32, u32) {
+fn filled(
+    before: Option<Fill>,
+    forced: bool,
+    tags: usize,
+    entries: usize,
+) -> Result<(), EncodeError> {
     let mut path_tags = [PathTag(0); 4];
     let mut styles = [Style::from_fill(Fill::NonZero); 4];
     let mut encoding = Encoding::new();
@@ -73,22 +83,22 @@ fn filled(before: Option<Fill>, forced: bool, tags: usize, entries: usize) -> (u
     }
     let tags = &mut path_tags[0..tags.min(4)];
     let entries = &mut styles[0..entries.min(4)];
-    answer(encoding.encode_fill_style(tags, entries, Fill::EvenOdd))
+    encoding.encode_fill_style(tags, entries, Fill::EvenOdd)
 }
 
 // The fill before, forced or not, path tags, styles, and the answer.
-const FILLS: [(Option<Fill>, bool, usize, usize, (u32, u32)); 11] = [
-    (None, false, 1, 1, ACCEPTED),
-    (None, false, 0, 1, (2, 0)),
-    (None, false, 1, 0, (2, 5)),
-    (None, false, 0, 0, (2, 0)),
-    (Some(Fill::EvenOdd), false, 1, 1, ACCEPTED),
-    (Some(Fill::EvenOdd), true, 1, 1, (2, 0)),
-    (Some(Fill::NonZero), false, 1, 1, (2, 0)),
-    (Some(Fill::NonZero), false, 2, 1, (2, 5)),
-    (Some(Fill::NonZero), false, 2, 2, ACCEPTED),
-    (Some(Fill::NonZero), false, 0, 0, (1, 0)),
-    (Some(Fill::NonZero), false, 1, 0, (1, 5)),
+const FILLS: [(Option<Fill>, bool, usize, usize, Result<(), EncodeError>); 11] = [
+    (None, false, 1, 1, Ok(())),
+    (None, false, 0, 1, Err(Full(PathTags))),
+    (None, false, 1, 0, Err(Full(Styles))),
+    (None, false, 0, 0, Err(Full(PathTags))),
+    (Some(Fill::EvenOdd), false, 1, 1, Ok(())),
+    (Some(Fill::EvenOdd), true, 1, 1, Err(Full(PathTags))),
+    (Some(Fill::NonZero), false, 1, 1, Err(Full(PathTags))),
+    (Some(Fill::NonZero), false, 2, 1, Err(Full(Styles))),
+    (Some(Fill::NonZero), false, 2, 2, Ok(())),
+    (Some(Fill::NonZero), false, 0, 0, Err(Short(PathTags))),
+    (Some(Fill::NonZero), false, 1, 0, Err(Short(Styles))),
 ];
 
 #[test]
@@ -109,7 +119,13 @@ fn stroke(width: f32, miter_limit: f32) -> Stroke {
 }
 
 // A stroke, first or after one of width 1.0, with so many path tags and styles.
-fn stroked(first: bool, width: f32, limit: f32, tags: usize, entries: usize) -> (u32, u32) {
+fn stroked(
+    first: bool,
+    width: f32,
+    limit: f32,
+    tags: usize,
+    entries: usize,
+) -> Result<bool, EncodeError> {
     let mut path_tags = [PathTag(0); 4];
     let mut styles = [Style::from_fill(Fill::NonZero); 4];
     let mut encoding = Encoding::new();
@@ -118,25 +134,25 @@ fn stroked(first: bool, width: f32, limit: f32, tags: usize, entries: usize) -> 
     }
     let tags = &mut path_tags[0..tags.min(4)];
     let entries = &mut styles[0..entries.min(4)];
-    truth(encoding.encode_stroke_style(tags, entries, stroke(width, limit)))
+    encoding.encode_stroke_style(tags, entries, stroke(width, limit))
 }
 
 // First or not, width, miter limit, path tags, styles, and the answer.
-const STROKES: [(bool, f32, f32, usize, usize, (u32, u32)); 14] = [
-    (true, 1.0, 4.0, 1, 1, TRUE),
-    (true, 1.0, 4.0, 0, 1, (2, 0)),
-    (true, 1.0, 4.0, 1, 0, (2, 5)),
-    (true, 1.0, 4.0, 0, 0, (2, 0)),
-    (true, 0.0, 4.0, 0, 0, (4, NO_STREAM)),
-    (true, -0.0, 4.0, 1, 1, (4, NO_STREAM)),
-    (true, 0.0, INFINITE, 0, 0, (3, NO_STREAM)),
-    (true, INFINITE, 4.0, 1, 1, (3, NO_STREAM)),
-    (false, 1.0, 4.0, 1, 1, TRUE),
-    (false, 2.0, 4.0, 1, 1, (2, 0)),
-    (false, 1.0, 5.0, 2, 1, (2, 5)),
-    (false, 0.0, 4.0, 0, 0, (1, 0)),
-    (false, INFINITE, 4.0, 1, 0, (1, 5)),
-    (false, 0.0, 4.0, 1, 1, (4, NO_STREAM)),
+const STROKES: [(bool, f32, f32, usize, usize, Result<bool, EncodeError>); 14] = [
+    (true, 1.0, 4.0, 1, 1, Ok(true)),
+    (true, 1.0, 4.0, 0, 1, Err(Full(PathTags))),
+    (true, 1.0, 4.0, 1, 0, Err(Full(Styles))),
+    (true, 1.0, 4.0, 0, 0, Err(Full(PathTags))),
+    (true, 0.0, 4.0, 0, 0, Err(ZeroWidth)),
+    (true, -0.0, 4.0, 1, 1, Err(ZeroWidth)),
+    (true, 0.0, INFINITE, 0, 0, Err(NotFinite)),
+    (true, INFINITE, 4.0, 1, 1, Err(NotFinite)),
+    (false, 1.0, 4.0, 1, 1, Ok(true)),
+    (false, 2.0, 4.0, 1, 1, Err(Full(PathTags))),
+    (false, 1.0, 5.0, 2, 1, Err(Full(Styles))),
+    (false, 0.0, 4.0, 0, 0, Err(Short(PathTags))),
+    (false, INFINITE, 4.0, 1, 0, Err(Short(Styles))),
+    (false, 0.0, 4.0, 1, 1, Err(ZeroWidth)),
 ];
 
 #[test]
@@ -152,10 +168,10 @@ fn a_nan_in_a_stored_transform(rt: HostRuntime) {
     let mut path_tags = [PathTag(0); 4];
     let mut transforms = [scaled(0.0); 4];
     let mut encoding = Encoding::new();
-    let first = truth(encoding.encode_transform(&mut path_tags, &mut transforms, scaled(0.0)));
+    let first = encoding.encode_transform(&mut path_tags, &mut transforms, scaled(0.0));
     transforms[0] = scaled(0.0 / 0.0);
-    let again = truth(encoding.encode_transform(&mut path_tags, &mut transforms, scaled(0.0)));
-    assert_eq!(rt; (first, again), (TRUE, TRUE));
+    let again = encoding.encode_transform(&mut path_tags, &mut transforms, scaled(0.0));
+    assert_eq!(rt; (first, again), (Ok(true), Ok(true)));
 }
 
 // The join, the caps at the start and at the end, the miter limit, and the word.
@@ -168,13 +184,6 @@ const WORDS: [(Join, Cap, Cap, f32, u32); 6] = [
     (Join::Bevel, Cap::Butt, Cap::Round, -1.0, 0x8200_bc00),
 ];
 
-fn word(stroke: Stroke) -> u32 {
-    match Style::from_stroke(stroke) {
-        Ok(style) => style.flags_and_miter_limit,
-        Err(_) => 0,
-    }
-}
-
 #[test]
 fn words(rt: HostRuntime) {
     for (join, start_cap, end_cap, miter_limit, expected) in WORDS {
@@ -185,7 +194,8 @@ fn words(rt: HostRuntime) {
             start_cap,
             end_cap,
         };
-        assert_eq!(rt; word(stroke), expected);
+        let word = Style::from_stroke(stroke).map(|style| style.flags_and_miter_limit);
+        assert_eq!(rt; word, Ok(expected));
     }
     assert_eq!(rt;
         Style::from_fill(Fill::EvenOdd).flags_and_miter_limit,
