@@ -1,6 +1,6 @@
 -- An end meets a begin before it exactly when the tags between reduce to (0, 0). Assumes nothing.
 use Rattle.std.proofs.Common.{Bor, ◌≡◌, ℕ, zero, suc, ◌+◌, ◌-◌, ◌<◌, ◌≤◌, min, Bool, true, false, cond, eqb, List, [], ◌∷◌, ◌++◌, length, get_or, take, drop, Some, None, Option, sym, refl, ap, ◌∙◌, subst, append_assoc, add-zero, zero-add, arith, length-append, ne_eqb}
-use Rattle.std.proofs.lemmas.List.{get_or-take, drop_all, drop_more, drop-take, take-take, take-append-drop, length-take-le}
+use Rattle.std.proofs.lemmas.List.{drop_all, drop_more, drop-take, take-take, take-append-drop, length-take-le}
 use Rattle.std.proofs.ByRecursion.{All-push, All-weaker, All-drop}
 use Rattle.std.specs.List.{AllByRecursion as All}
 use Rattle.std.specs.Option.{option_eq, option_map, unwrap_or}
@@ -143,30 +143,6 @@ meeting_at ts i j d less within begins =
       λ h. ap (λ xs. latest (open_after 0 [] xs)) split ∙ both.1 h ∙ ap Some long,
     )
 
--- what the latest begin open is looked for by, from the end back
-module _ (ts : List DrawTag) (end : ℕ) (within : end ≤ length ts) (d : DrawTag) where
-  before : (i : ℕ) → 0 < i → i ≤ end → drop (i - 1) (take end ts) ≡ get_or ts (i - 1) d ∷ drop i (take end ts)
-  before i some least =
-      let long = length-take-le end ts within in
-      let last : i - 1 + 1 ≡ i = omega arith in
-      drop_more (take end ts) (i - 1) d (omega arith)
-      ∙ ap (λ x. x ∷ drop (i - 1 + 1) (take end ts)) (get_or-take end ts (i - 1) d (omega arith))
-      ∙ ap (λ n. get_or ts (i - 1) d ∷ drop n (take end ts)) last
-
-  -- one tag more, from the front
-  pub stepped : (i a : ℕ) (x : Bic) → 0 < i → i ≤ end → from_tag (get_or ts (i - 1) d) ≡ x → clipped (drop i (take end ts)) ≡ bic a 0 →
-      clipped (drop (i - 1) (take end ts)) ≡ after x (bic a 0)
-  stepped i a x some least is h = ap clipped (before i some least) ∙ ap (λ y. after y (clipped (drop i (take end ts)))) is ∙ ap (after x) h
-
-  pub found : (i : ℕ) → 0 < i → i ≤ end → (get_or ts (i - 1) d).0 ≡ 0x49 → clipped (drop i (take end ts)) ≡ still →
-      Some (i - 1) ≡ latest (open_after 0 [] (take end ts))
-  found i some least begins h =
-      let last : i - 1 + 1 ≡ i = omega arith in
-      let all : i + (end - i) ≡ end = omega arith in
-      let between : take (end - (i - 1 + 1)) (drop (i - 1 + 1) ts) ≡ drop i (take end ts) =
-      ap (λ n. take (end - n) (drop n ts)) last ∙ sym (drop-take i (end - i) ts) ∙ ap (λ n. drop i (take n ts)) all in
-      sym ((meeting_at ts (i - 1) end d (omega arith) within begins).1 (ap clipped between ∙ h))
-
 none_open : (a : ℕ) (new held : List ℕ) → length new ≡ 0 → held ≡ new ++ drop a [] → latest held ≡ None
 none_open a [] held count left = ap latest (left ∙ drop_all a [] (omega arith))
 none_open a (k ∷ new) held count left = absurd (omega arith)
@@ -178,16 +154,51 @@ none_left ts a h =
     sym (none_open (clipped ts).pops e.new (open_after 0 [] ts) (e.count ∙ ap (λ x. x.pushes) h) e.left)
 
 -- what a tag does, by its number
-pub as_begin : (t : DrawTag) → t.0 ≡ 0x49 → from_tag t ≡ bic 0 1
+as_begin : (t : DrawTag) → t.0 ≡ 0x49 → from_tag t ≡ bic 0 1
 as_begin t is = ap (λ n. cond (eqb n 0x49) (bic 0 1) (cond (eqb n 0x21) (bic 1 0) still)) is
 
-pub as_end : (t : DrawTag) → t.0 ≡ 0x21 → from_tag t ≡ bic 1 0
+as_end : (t : DrawTag) → t.0 ≡ 0x21 → from_tag t ≡ bic 1 0
 as_end t is = ap (λ n. cond (eqb n 0x49) (bic 0 1) (cond (eqb n 0x21) (bic 1 0) still)) is
 
-pub as_other : (t : DrawTag) → (t.0 ≡ 0x49 → ⊥) → (t.0 ≡ 0x21 → ⊥) → from_tag t ≡ still
+as_other : (t : DrawTag) → (t.0 ≡ 0x49 → ⊥) → (t.0 ≡ 0x21 → ⊥) → from_tag t ≡ still
 as_other t p q =
     ap (λ b. cond b (bic 0 1) (cond (eqb t.0 0x21) (bic 1 0) still)) (ne_eqb t.0 0x49 p)
     ∙ ap (λ b. cond b (bic 1 0) still) (ne_eqb t.0 0x21 q)
+
+-- the latest begin open is looked for from the end back: one tag more, from the front
+module _ (ts : List DrawTag) (i : ℕ) (some : 0 < i) (within : i ≤ length ts) (d : DrawTag) where
+  behind : drop (i - 1) ts ≡ get_or ts (i - 1) d ∷ drop i ts
+  behind =
+      let last : i - 1 + 1 ≡ i = omega arith in
+      drop_more ts (i - 1) d (omega arith) ∙ ap (λ n. get_or ts (i - 1) d ∷ drop n ts) last
+
+  stepped : (a : ℕ) (x : Bic) → from_tag (get_or ts (i - 1) d) ≡ x → clipped (drop i ts) ≡ bic a 0 → clipped (drop (i - 1) ts) ≡ after x (bic a 0)
+  stepped a x is h = ap clipped behind ∙ (λ k. after (is k) (h k))
+
+  pub found : (get_or ts (i - 1) d).0 ≡ 0x49 → clipped (drop i ts) ≡ still → Some (i - 1) ≡ latest (open_after 0 [] ts)
+  found begins h =
+      let parted : ts ≡ take (i - 1) ts ++ (get_or ts (i - 1) d ∷ drop i ts) = sym (take-append-drop (i - 1) ts) ∙ ap (λ xs. take (i - 1) ts ++ xs) behind in
+      let place : length (take (i - 1) ts) ≡ i - 1 = length-take-le (i - 1) ts (omega arith) in
+      let met = (meeting (take (i - 1) ts) (get_or ts (i - 1) d) (drop i ts) begins).1 h in
+      sym (met ∙ ap Some place) ∙ ap (λ xs. latest (open_after 0 [] xs)) (sym parted)
+
+  pub opens : (a : ℕ) → (a ≡ 0 → ⊥) → (get_or ts (i - 1) d).0 ≡ 0x49 → clipped (drop i ts) ≡ bic a 0 → clipped (drop (i - 1) ts) ≡ bic (a - 1) 0
+  opens a many is h =
+      let pops : 0 + a - min 1 a ≡ a - 1 = omega arith in
+      let pushes : 1 + 0 - min 1 a ≡ 0 = omega arith in
+      stepped a (bic 0 1) (as_begin (get_or ts (i - 1) d) is) h ∙ (λ k. bic (pops k) (pushes k))
+
+  pub closes : (a : ℕ) → (get_or ts (i - 1) d).0 ≡ 0x21 → clipped (drop i ts) ≡ bic a 0 → clipped (drop (i - 1) ts) ≡ bic (a + 1) 0
+  closes a is h =
+      let pops : 1 + a - min 0 a ≡ a + 1 = omega arith in
+      let pushes : 0 + 0 - min 0 a ≡ 0 = omega arith in
+      stepped a (bic 1 0) (as_end (get_or ts (i - 1) d) is) h ∙ (λ k. bic (pops k) (pushes k))
+
+  pub stays : (a : ℕ) → ((get_or ts (i - 1) d).0 ≡ 0x49 → ⊥) → ((get_or ts (i - 1) d).0 ≡ 0x21 → ⊥) → clipped (drop i ts) ≡ bic a 0 → clipped (drop (i - 1) ts) ≡ bic a 0
+  stays a p q h =
+      let pops : 0 + a - min 0 a ≡ a = omega arith in
+      let pushes : 0 + 0 - min 0 a ≡ 0 = omega arith in
+      stepped a still (as_other (get_or ts (i - 1) d) p q) h ∙ (λ k. bic (pops k) (pushes k))
 
 abbrev nop : DrawTag
 nop = record { 0 = 0 }

@@ -1,6 +1,8 @@
 -- Tags packed into words: how many words there are, and that they count what the tags count. Assumes nothing.
-use Rattle.std.proofs.Common.{◌≡◌, ℕ, zero, suc, ◌+◌, ◌-◌, ◌*◌, ◌/◌, ◌%◌, ◌^◌, ◌<◌, ◌≤◌, List, [], ◌∷◌, ◌++◌, length, get_or, take, drop, replicate, sym, refl, ap, ◌∙◌, append_assoc, arith, length-drop, take_all, rules}
+use Rattle.std.proofs.Common.{◌≡◌, ℕ, zero, suc, ◌+◌, ◌*◌, ◌/◌, ◌%◌, ◌^◌, ◌<◌, ◌≤◌, List, [], ◌∷◌, ◌++◌, length, map, get_or, take, drop, replicate, sym, refl, ap, ◌∙◌, arith, zero-mul, rules}
+use Rattle.std.proofs.lemmas.List.{map-append, take_more}
 use Rattle.std.proofs.lemmas.Nat.{div-mul-add, mod-mul-add}
+use Rattle.std.specs.Simd.{first_chunks}
 use Rattle.monoid.specs.Laws.{Laws, reduced}
 use Rattle.monoid.specs.PathTags.{Counts, none, plus, from_tag, from_word, tag}
 use Rattle.monoid.specs.Packing.{blank, byte, word, packed, Packs}
@@ -99,24 +101,40 @@ length-packed (a ∷ b ∷ []) = refl
 length-packed (a ∷ b ∷ c ∷ []) = refl
 length-packed (a ∷ b ∷ c ∷ d ∷ rest) = let h = length-packed rest in omega arith
 
--- four tags and those after them
-pub packed_four : (ts : List PathTag) (d : PathTag) → 4 ≤ length ts →
-    packed ts ≡ word (get_or ts 0 d) (get_or ts 1 d) (get_or ts 2 d) (get_or ts 3 d) ∷ packed (drop 4 ts)
-packed_four [] d h = absurd (omega arith)
-packed_four (a ∷ []) d h = absurd (omega arith)
-packed_four (a ∷ b ∷ []) d h = absurd (omega arith)
-packed_four (a ∷ b ∷ c ∷ []) d h = absurd (omega arith)
-packed_four (a ∷ b ∷ c ∷ e ∷ rest) d h = refl
+-- the word of a four
+abbrev pub word_of : List PathTag → ℕ
+word_of ts = word (get_or ts 0 blank) (get_or ts 1 blank) (get_or ts 2 blank) (get_or ts 3 blank)
 
--- a word more, and four tags less that are left
-pub packed_more : (ts rest : List PathTag) (n : ℕ) (ws more : List ℕ) (d : PathTag) {w : ℕ} → 4 ≤ length rest → length rest - 4 ≤ n →
-    more ≡ ws ++ (w ∷ []) → w ≡ word (get_or rest 0 d) (get_or rest 1 d) (get_or rest 2 d) (get_or rest 3 d) → ws ++ packed rest ≡ packed ts →
-    more ++ packed (take n (drop 4 rest)) ≡ packed ts
-packed_more ts rest n ws more d {w} long all pushed is left =
-    let cut : take n (drop 4 rest) ≡ drop 4 rest = take_all n (drop 4 rest) (simp length-drop (omega arith)) in
-    let both : more ++ packed (take n (drop 4 rest)) ≡ ws ++ (w ∷ packed (drop 4 rest)) =
-    (λ i. pushed i ++ packed (cut i)) ∙ append_assoc ws (w ∷ []) (packed (drop 4 rest)) in
-    both ∙ ap (λ x. ws ++ (x ∷ packed (drop 4 rest))) is ∙ ap (λ xs. ws ++ xs) (sym (packed_four rest d long)) ∙ left
+-- the fours, and those after them
+pub packed_fours : (k : ℕ) (ts : List PathTag) → k * 4 ≤ length ts → packed ts ≡ map word_of (first_chunks 4 k ts) ++ packed (drop (k * 4) ts)
+packed_fours zero ts h = ap (λ n. packed (drop n ts)) (sym (zero-mul 4))
+packed_fours (suc k) [] h = absurd (omega arith)
+packed_fours (suc k) (a ∷ []) h = absurd (omega arith)
+packed_fours (suc k) (a ∷ b ∷ []) h = absurd (omega arith)
+packed_fours (suc k) (a ∷ b ∷ c ∷ []) h = absurd (omega arith)
+packed_fours (suc k) (a ∷ b ∷ c ∷ d ∷ rest) h =
+    let e : suc (suc (suc (suc (k * 4)))) ≡ suc k * 4 = omega arith in
+    ap (λ ws. word a b c d ∷ ws) (packed_fours k rest (omega arith))
+    ∙ ap (λ n. word a b c d ∷ (map word_of (first_chunks 4 k rest) ++ packed (drop n (a ∷ b ∷ c ∷ d ∷ rest)))) e
+
+-- the tags that are left, with blanks after them
+pub packed_rest : (rest : List PathTag) → 0 < length rest → length rest < 4 →
+    packed rest ≡ word_of (rest ++ drop (length rest) (blank ∷ blank ∷ blank ∷ blank ∷ [])) ∷ []
+packed_rest [] some few = absurd (omega arith)
+packed_rest (a ∷ []) some few = refl
+packed_rest (a ∷ b ∷ []) some few = refl
+packed_rest (a ∷ b ∷ c ∷ []) some few = refl
+packed_rest (a ∷ b ∷ c ∷ d ∷ rest) some few = absurd (omega arith)
+
+pub packed_none : (rest : List PathTag) → length rest ≡ 0 → packed rest ≡ []
+packed_none [] none = refl
+packed_none (a ∷ rest) none = absurd (omega arith)
+
+-- one four more
+pub more_fours : (fours : List (List PathTag)) (i : ℕ) (ws more : List ℕ) (w : ℕ) → i < length fours → ws ≡ map word_of (take i fours) → more ≡ ws ++ (w ∷ []) →
+    w ≡ word_of (get_or fours i []) → more ≡ map word_of (take (i + 1) fours)
+more_fours fours i ws more w less so_far pushed is =
+    pushed ∙ (λ j. so_far j ++ (is j ∷ [])) ∙ sym (map-append word_of (take i fours) (get_or fours i [] ∷ [])) ∙ ap (map word_of) (sym (take_more fours i [] less))
 
 pub packs : (ts : List PathTag) (ws : List ℕ) → ws ≡ packed ts → Packs ts ws
 packs ts ws e = record {

@@ -6,6 +6,7 @@ ghost use Rattle.monoid.specs.Kinds.{draw_laws, draw_fits};
 use crate::{CountError, Monoid, sum};
 
 /// One entry of the draw tag stream. Its bits say what it counts.
+// It is no enum, as any number may stand in the stream and counts by its bits.
 #[derive(Clone, Copy, Debug, PartialEq, Eq)]
 #[repr(C)]
 pub struct DrawTag(pub u32);

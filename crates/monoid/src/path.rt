@@ -1,7 +1,6 @@
 // Path tags and the records that count them.
 ghost use Rattle.std.specs.Prelude.{◌≡◌, ◌+◌, ◌<◌, ◌≤◌, length, IfOk};
-ghost use Rattle.std.specs.Option.{option_to_list};
-ghost use Rattle.monoid.specs.Packing.{word, packed, Packs};
+ghost use Rattle.monoid.specs.Packing.{word, Packs};
 ghost use Rattle.monoid.specs.PathTags.{Counts, counts_of, none, plus, from_word, Small, points, points_of, segment_type, is_segment, is_f32, ends_subpath, ended};
 ghost use Rattle.monoid.specs.Kinds.{path_laws, path_fits};
 
@@ -26,6 +25,7 @@ impl PathSegmentType {
 }
 
 /// One entry of the path tag stream.
+// It is no enum, as any byte may stand in the stream and counts by its bits.
 #[derive(Clone, Copy, Debug, PartialEq, Eq)]
 #[repr(C)]
 pub struct PathTag(pub u8);
@@ -187,32 +187,20 @@ fn tag_word(a: PathTag, b: PathTag, c: PathTag, d: PathTag) -> u32
     u32::from_le_bytes([a.0, b.0, c.0, d.0])
 }
 
-// The word of at most three tags that are left, filled up with zero tags.
-fn last_word(rest: &[PathTag]) -> Option<u32>
-    requires { length rest.now < 4 }
-    ensures { option_to_list result ≡ packed rest.now }
-{
-    let blank = PathTag(0);
-    match rest {
-        [a] => Some(tag_word(*a, blank, blank, blank)),
-        [a, b] => Some(tag_word(*a, *b, blank, blank)),
-        [a, b, c] => Some(tag_word(*a, *b, *c, blank)),
-        _ => None,
-    }
-}
-
 /// The tags in words of four, the last filled up with zero tags.
 pub fn pack_tags(heap: Global, tags: &[PathTag]) -> Result<Vec<u32>, AllocError>
     ensures { IfOk result (λ v. Packs tags.now v.items) }
 {
-    let mut words = Vec::with_capacity(heap, tags.len() / 4 + 1)?;
-    let mut rest = tags;
-    while let [a, b, c, d, after @ ..] = rest {
+    let (fours, rest) = tags.as_chunks::<4>();
+    let mut words = Vec::with_capacity(heap, fours.len() + 1)?;
+    for [a, b, c, d] in fours {
         words.push(tag_word(*a, *b, *c, *d))?;
-        rest = after;
     }
-    if let Some(word) = last_word(rest) {
-        words.push(word)?;
+    if !rest.is_empty() {
+        let mut last = [PathTag(0); 4];
+        last[..rest.len()].copy_from_slice(rest);
+        let [a, b, c, d] = last;
+        words.push(tag_word(a, b, c, d))?;
     }
     Ok(words)
 }

@@ -33,6 +33,7 @@ pub fn prefixes<M: Monoid>(
         return Err(crate::CountError::ShortTable);
     }
     let mut total = M::identity();
+    // Rows are written by index, as a proof knows no row of a table that `iter_mut` has lent out.
     for (i, s) in sources.iter().enumerate() {
         table[i] = total;
         total = total.combine_fitting(&M::new(*s));

@@ -3,103 +3,97 @@ use monoid::clip::ClipBic;
 use monoid::draw::{DrawMonoid, DrawTag};
 use monoid::path::PathMonoid;
 use monoid::reduction::{prefixes, reduce};
-use monoid::{MAX_SOURCES, Monoid};
+use monoid::{CountError, MAX_SOURCES, Monoid, few_enough};
 use std::test::Fail;
 
-fn path_offset(words: &[u32]) -> Result<u32, u32> {
-    match reduce::<PathMonoid>(words) {
-        Ok(m) => Ok(m.pathseg_offset),
-        Err(e) => Err(e.number()),
-    }
-}
-
-fn draws(tags: &[DrawTag]) -> Result<(u32, u32, u32, u32), u32> {
-    match reduce::<DrawMonoid>(tags) {
-        Ok(m) => Ok((m.path_ix, m.clip_ix, m.scene_offset, m.info_offset)),
-        Err(e) => Err(e.number()),
-    }
-}
-
-fn depth(tags: &[DrawTag]) -> Result<(u32, u32), u32> {
-    match reduce::<ClipBic>(tags) {
-        Ok(m) => Ok((m.a, m.b)),
-        Err(e) => Err(e.number()),
-    }
-}
+const CLIPPED_COLOUR: [DrawTag; 3] = [DrawTag::BEGIN_CLIP, DrawTag::COLOR, DrawTag::END_CLIP];
 
 #[test]
 fn a_clipped_colour(rt: HostRuntime) {
-    let tags = [DrawTag::BEGIN_CLIP, DrawTag::COLOR, DrawTag::END_CLIP];
-    assert_eq!(rt; draws(&tags), Ok((3, 2, 3, 2)));
-    assert_eq!(rt; depth(&tags), Ok((0, 0)));
+    let drawn = DrawMonoid {
+        path_ix: 3,
+        clip_ix: 2,
+        scene_offset: 3,
+        info_offset: 2,
+    };
+    assert_eq!(rt; reduce(&CLIPPED_COLOUR), Ok(drawn));
+    assert_eq!(rt; reduce(&CLIPPED_COLOUR), Ok(ClipBic { a: 0, b: 0 }));
 }
 
 #[test]
 fn the_empty_list(rt: HostRuntime) {
-    assert_eq!(rt; path_offset(&[]), Ok(0));
-    assert_eq!(rt; draws(&[]), Ok((0, 0, 0, 0)));
-    assert_eq!(rt; depth(&[]), Ok((0, 0)));
+    assert_eq!(rt; reduce(&[]), Ok(PathMonoid::identity()));
+    assert_eq!(rt;
+        reduce(&[]),
+        Ok(DrawMonoid {
+            path_ix: 0,
+            clip_ix: 0,
+            scene_offset: 0,
+            info_offset: 0
+        })
+    );
+    assert_eq!(rt; reduce(&[]), Ok(ClipBic { a: 0, b: 0 }));
 }
 
 #[test]
 fn the_most_sources(rt: HostRuntime) -> Result<(), Fail> {
     let mut words = vec![in rt.alloc(); 0x0f0f0f0fu32; MAX_SOURCES]?;
-    assert_eq!(rt; path_offset(words.as_slice()), Ok(33554432));
+    assert_eq!(rt;
+        reduce::<PathMonoid>(&words).map(|m| m.pathseg_offset),
+        Ok(33554432)
+    );
     words.push(0)?;
-    assert_eq!(rt; path_offset(words.as_slice()), Err(12));
+    assert_eq!(rt;
+        reduce::<PathMonoid>(&words),
+        Err(CountError::TooManySources)
+    );
     Ok(())
 }
 
-fn number_of(r: Result<(), monoid::CountError>) -> u32 {
-    match r {
-        Ok(()) => 0,
-        Err(e) => e.number(),
-    }
+#[test]
+fn the_most_that_are_few_enough(rt: HostRuntime) {
+    assert_eq!(rt; few_enough(1048576), Ok(()));
+    assert_eq!(rt; few_enough(1048577), Err(CountError::TooManySources));
 }
 
 #[test]
 fn rows(rt: HostRuntime) {
     let mut table = [ClipBic { a: 7, b: 7 }; 4];
-    let tags = [DrawTag::BEGIN_CLIP, DrawTag::COLOR, DrawTag::END_CLIP];
-    assert_eq!(rt; number_of(prefixes(&tags, &mut table)), 0);
-    assert_eq!(rt; (table[0].a, table[0].b), (0, 0));
-    assert_eq!(rt; (table[1].a, table[1].b), (0, 1));
-    assert_eq!(rt; (table[2].a, table[2].b), (0, 1));
-    assert_eq!(rt; (table[3].a, table[3].b), (7, 7));
+    assert_eq!(rt; prefixes(&CLIPPED_COLOUR, &mut table), Ok(()));
+    assert_eq!(rt;
+        table,
+        [
+            ClipBic { a: 0, b: 0 },
+            ClipBic { a: 0, b: 1 },
+            ClipBic { a: 0, b: 1 },
+            ClipBic { a: 7, b: 7 }
+        ]
+    );
 }
 
 #[test]
 fn a_short_table_keeps_its_rows(rt: HostRuntime) {
     let mut table = [ClipBic { a: 7, b: 7 }; 2];
-    let tags = [DrawTag::BEGIN_CLIP, DrawTag::COLOR, DrawTag::END_CLIP];
-    assert_eq!(rt; number_of(prefixes(&tags, &mut table)), 11);
-    assert_eq!(rt; (table[0].a, table[0].b), (7, 7));
-    assert_eq!(rt; (table[1].a, table[1].b), (7, 7));
+    assert_eq!(rt;
+        prefixes(&CLIPPED_COLOUR, &mut table),
+        Err(CountError::ShortTable)
+    );
+    assert_eq!(rt; table, [ClipBic { a: 7, b: 7 }; 2]);
 }
 
 // Too many sources come before a short table.
 #[test]
 fn too_many_sources_for_a_table(rt: HostRuntime) -> Result<(), Fail> {
     let mut tags = vec![in rt.alloc(); DrawTag::COLOR; MAX_SOURCES]?;
-    let mut table: Vec<DrawMonoid> = vec![in rt.alloc(); <DrawMonoid as Monoid>::identity(); MAX_SOURCES]?;
-    assert_eq!(rt;
-        number_of(prefixes(tags.as_slice(), table.as_mut_slice())),
-        0
-    );
-    assert_eq!(rt;
-        table
-            .last()
-            .copied()
-            .unwrap_or(<DrawMonoid as Monoid>::identity())
-            .scene_offset,
-        1048575
-    );
+    let mut table: Vec<DrawMonoid> = vec![in rt.alloc(); DrawMonoid::identity(); MAX_SOURCES]?;
+    assert_eq!(rt; prefixes(&tags, &mut table), Ok(()));
+    assert_eq!(rt; table.last().map(|m| m.scene_offset), Some(1048575));
     tags.push(DrawTag::COLOR)?;
     let mut short: [PathMonoid; 0] = [];
-    assert_eq!(rt; number_of(prefixes(&[1, 2], &mut short)), 11);
+    assert_eq!(rt; prefixes(&[1, 2], &mut short), Err(CountError::ShortTable));
     assert_eq!(rt;
-        number_of(prefixes(tags.as_slice(), table.as_mut_slice())),
-        12
+        prefixes(&tags, &mut table),
+        Err(CountError::TooManySources)
     );
     Ok(())
 }

@@ -1,19 +1,34 @@
-use Rattle.std.proofs.Common.{◌≡◌, ◌++◌, vec_items, sym, ap, ◌∙◌, append-nil, arith, ltb-false}
-use Rattle.monoid.specs.Packing.{packed}
-use Rattle.monoid.proofs.Packs.{packed_more, packs}
+use Rattle.std.proofs.Common.{◌≡◌, ◌/◌, ◌<◌, ◌++◌, [], ◌∷◌, map, drop, length, vec_items, sym, ap, ◌∙◌, append-nil, arith, rules, tests, take_all}
+use Rattle.std.specs.Simd.{first_chunks}
+use Rattle.monoid.specs.Packing.{blank, packed}
+use Rattle.monoid.proofs.Packs.{word_of, packs, packed_fours, packed_rest, packed_none, more_fours}
 use Rattle.monoid.proofs.path.pack_tags.Goals as goal
-use Rattle.monoid.proofs.path.pack_tags.Goals.{in-Some+in_ok-push-2, in_default-last_word}
+use Rattle.monoid.proofs.path.pack_tags.Goals.{then-not-is_empty+in_ok-push-2, else-not-is_empty}
 
-pub loop-rest-preserved : goal.loop-rest-preserved
-loop-rest-preserved c =
-    packed_more c.args.tags.now c.loop-rest.rest.now _ (vec_items c.loop-rest.words) (vec_items c.push.new.self) (record { 0 = 0 })
-    (omega (arith, ltb-false)) (omega arith) c.in_ok-push.ensures.items c.tag_word.ensures c.loop-rest.invariant
+pub loop-a-preserved : goal.loop-a-preserved
+loop-a-preserved c =
+    more_fours _ c.loop-a.a-index _ _ _ c.loop-a-test.true c.loop-a.invariant c.in_ok-push.ensures.items c.tag_word.ensures
 
 pub returns : goal.returns
 returns c =
-    let so_far = vec_items c.loop-rest.words in
-    let all : vec_items c.match-last_word.words ≡ packed c.args.tags.now = elim c.match-last_word.branch [
-      | in-Some+in_ok-push-2 w ↦
-          ap vec_items w.words-is ∙ w.in_ok-push-2.ensures.items ∙ ap (λ xs. so_far ++ xs) w.in-Some.ensures ∙ c.loop-rest.invariant
-      | in_default-last_word w ↦ ap vec_items w.words-is ∙ sym (append-nil so_far) ∙ ap (λ xs. so_far ++ xs) w.in_default-last_word.ensures ∙ c.loop-rest.invariant
+    let ts = c.args.tags.now in
+    let k = length ts / 4 in
+    let rest = c.as_chunks.result.1.now in
+    let fours : vec_items c.loop-a.words ≡ map word_of (first_chunks 4 k ts) =
+    c.loop-a.invariant ∙ ap (map word_of) (take_all _ _ c.loop-a-test.false ∙ c.as_chunks.ensures.front) in
+    let parts : packed ts ≡ vec_items c.loop-a.words ++ packed rest =
+    packed_fours k ts (omega arith) ∙ (λ i. sym fours i ++ packed (sym c.as_chunks.ensures.back i)) in
+    let all : vec_items c.if-not-is_empty.words ≡ packed ts = elim c.if-not-is_empty.branch [
+      | then-not-is_empty+in_ok-push-2 w ↦
+          let some : 0 < length rest = search (rules, tests) in
+          let blanks = blank ∷ blank ∷ blank ∷ blank ∷ [] in
+          let last = w.tag_word-then-not-is_empty.ensures ∙ ap (λ xs. word_of (xs ++ drop (length rest) blanks)) w.copy_from_slice.ensures.after in
+          ap vec_items w.words-is
+          ∙ w.in_ok-push-2.ensures.items
+          ∙ ap (λ x. vec_items c.loop-a.words ++ (x ∷ [])) last
+          ∙ ap (λ xs. vec_items c.loop-a.words ++ xs) (sym (packed_rest rest some (omega (arith, c.as_chunks.ensures.back_len))))
+          ∙ sym parts
+      | else-not-is_empty w ↦
+          let none : length rest ≡ 0 = search (rules, tests) in
+          ap vec_items w.words-is ∙ sym (append-nil (vec_items c.loop-a.words)) ∙ ap (λ xs. vec_items c.loop-a.words ++ xs) (sym (packed_none rest none)) ∙ sym parts
     ] in packs _ _ all

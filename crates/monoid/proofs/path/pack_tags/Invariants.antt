@@ -1,10 +1,7 @@
-use Rattle.std.proofs.Common.{◌≡◌, ◌++◌, length, vec_items}
-use Rattle.monoid.specs.Packing.{packed}
+use Rattle.std.proofs.Common.{◌≡◌, map, take, vec_items}
+use Rattle.monoid.proofs.Packs.{word_of}
 use Rattle.monoid.proofs.path.pack_tags.Given as goal
 
--- the words so far, and those of the tags that are left
-abbrev pub invariant-loop-rest : goal.invariant-loop-rest
-invariant-loop-rest l = vec_items l.words ++ packed l.rest ≡ packed l.tags
-
-abbrev pub decreases-loop-rest : goal.decreases-loop-rest
-decreases-loop-rest l = length l.rest
+-- the words so far are those of the fours so far
+abbrev pub invariant-loop-a : goal.invariant-loop-a
+invariant-loop-a l = vec_items l.words ≡ map word_of (take l.a-index l.fours)
