@@ -1,12 +1,11 @@
 -- An end meets a begin before it exactly when the tags between reduce to (0, 0). Assumes nothing.
-use Rattle.std.proofs.Common.{Bor, ◌≡◌, ℕ, zero, suc, ◌+◌, ◌-◌, ◌<◌, ◌≤◌, min, Bool, true, false, cond, eqb, List, [], ◌∷◌, ◌++◌, length, get_or, take, drop, Some, None, Option, sym, refl, ap, ◌∙◌, subst, append_assoc, add-zero, zero-add, arith, length-append, ne_eqb}
+use Rattle.std.proofs.Common.{◌≡◌, ℕ, zero, suc, ◌+◌, ◌-◌, ◌<◌, ◌≤◌, min, Bool, true, false, cond, eqb, List, [], ◌∷◌, ◌++◌, length, get_or, take, drop, Some, None, sym, refl, ap, ◌∙◌, subst, append_assoc, add-zero, zero-add, arith, length-append}
 use Rattle.std.proofs.lemmas.List.{drop_all, drop_more, drop-take, take-take, take-append-drop, length-take-le}
 use Rattle.std.proofs.ByRecursion.{All-push, All-weaker, All-drop}
 use Rattle.std.specs.List.{AllByRecursion as All}
-use Rattle.std.specs.Option.{option_eq, option_map, unwrap_or}
 use Rattle.monoid.specs.Laws.{reduced}
 use Rattle.monoid.specs.Clips.{Bic, bic, still, after, from_tag}
-use Rattle.monoid.specs.Meeting.{closing, opened, open_after, latest, met_by, MeetsByReduction}
+use Rattle.monoid.specs.Meeting.{closing, opened, open_after, latest}
 use Rattle.monoid.specs.declared.draw.DrawTag.{DrawTag}
 
 abbrev clipped : List DrawTag → Bic
@@ -153,27 +152,12 @@ none_left ts a h =
     let e = effect 0 [] ts in
     sym (none_open (clipped ts).pops e.new (open_after 0 [] ts) (e.count ∙ ap (λ x. x.pushes) h) e.left)
 
--- what a tag does, by its number
-as_begin : (t : DrawTag) → t.0 ≡ 0x49 → from_tag t ≡ bic 0 1
-as_begin t is = ap (λ n. cond (eqb n 0x49) (bic 0 1) (cond (eqb n 0x21) (bic 1 0) still)) is
-
-as_end : (t : DrawTag) → t.0 ≡ 0x21 → from_tag t ≡ bic 1 0
-as_end t is = ap (λ n. cond (eqb n 0x49) (bic 0 1) (cond (eqb n 0x21) (bic 1 0) still)) is
-
-as_other : (t : DrawTag) → (t.0 ≡ 0x49 → ⊥) → (t.0 ≡ 0x21 → ⊥) → from_tag t ≡ still
-as_other t p q =
-    ap (λ b. cond b (bic 0 1) (cond (eqb t.0 0x21) (bic 1 0) still)) (ne_eqb t.0 0x49 p)
-    ∙ ap (λ b. cond b (bic 1 0) still) (ne_eqb t.0 0x21 q)
-
--- the latest begin open is looked for from the end back: one tag more, from the front
+-- the latest begin open is looked for from the end back
 module _ (ts : List DrawTag) (i : ℕ) (some : 0 < i) (within : i ≤ length ts) (d : DrawTag) where
   behind : drop (i - 1) ts ≡ get_or ts (i - 1) d ∷ drop i ts
   behind =
       let last : i - 1 + 1 ≡ i = omega arith in
       drop_more ts (i - 1) d (omega arith) ∙ ap (λ n. get_or ts (i - 1) d ∷ drop n ts) last
-
-  stepped : (a : ℕ) (x : Bic) → from_tag (get_or ts (i - 1) d) ≡ x → clipped (drop i ts) ≡ bic a 0 → clipped (drop (i - 1) ts) ≡ after x (bic a 0)
-  stepped a x is h = ap clipped behind ∙ (λ k. after (is k) (h k))
 
   pub found : (get_or ts (i - 1) d).0 ≡ 0x49 → clipped (drop i ts) ≡ still → Some (i - 1) ≡ latest (open_after 0 [] ts)
   found begins h =
@@ -182,50 +166,11 @@ module _ (ts : List DrawTag) (i : ℕ) (some : 0 < i) (within : i ≤ length ts)
       let met = (meeting (take (i - 1) ts) (get_or ts (i - 1) d) (drop i ts) begins).1 h in
       sym (met ∙ ap Some place) ∙ ap (λ xs. latest (open_after 0 [] xs)) (sym parted)
 
-  pub opens : (a : ℕ) → (a ≡ 0 → ⊥) → (get_or ts (i - 1) d).0 ≡ 0x49 → clipped (drop i ts) ≡ bic a 0 → clipped (drop (i - 1) ts) ≡ bic (a - 1) 0
-  opens a many is h =
-      let pops : 0 + a - min 1 a ≡ a - 1 = omega arith in
-      let pushes : 1 + 0 - min 1 a ≡ 0 = omega arith in
-      stepped a (bic 0 1) (as_begin (get_or ts (i - 1) d) is) h ∙ (λ k. bic (pops k) (pushes k))
-
-  pub closes : (a : ℕ) → (get_or ts (i - 1) d).0 ≡ 0x21 → clipped (drop i ts) ≡ bic a 0 → clipped (drop (i - 1) ts) ≡ bic (a + 1) 0
-  closes a is h =
-      let pops : 1 + a - min 0 a ≡ a + 1 = omega arith in
-      let pushes : 0 + 0 - min 0 a ≡ 0 = omega arith in
-      stepped a (bic 1 0) (as_end (get_or ts (i - 1) d) is) h ∙ (λ k. bic (pops k) (pushes k))
-
-  pub stays : (a : ℕ) → ((get_or ts (i - 1) d).0 ≡ 0x49 → ⊥) → ((get_or ts (i - 1) d).0 ≡ 0x21 → ⊥) → clipped (drop i ts) ≡ bic a 0 → clipped (drop (i - 1) ts) ≡ bic a 0
-  stays a p q h =
-      let pops : 0 + a - min 0 a ≡ a = omega arith in
-      let pushes : 0 + 0 - min 0 a ≡ 0 = omega arith in
-      stepped a still (as_other (get_or ts (i - 1) d) p q) h ∙ (λ k. bic (pops k) (pushes k))
-
 abbrev nop : DrawTag
 nop = record { 0 = 0 }
 
--- whether a tag that was looked up is an end
-pub is_end : (got : Option (Bor DrawTag)) (same : Bor DrawTag → Bor DrawTag → Bool) (end : Bor DrawTag) → ((x : Bor DrawTag) → same x end ≡ eqb x.now.0 0x21) →
-    option_eq same got (Some end) ≡ eqb (unwrap_or (option_map (λ x. x.now) got) nop).0 0x21
-is_end None same end k = refl
-is_end (Some x) same end k = k x
-
+-- an end stands among the tags
 pub end_within : (ts : List DrawTag) (j : ℕ) → (get_or ts j nop).0 ≡ 0x21 → j < length ts
 end_within [] j h = absurd (omega arith)
 end_within (t ∷ ts) zero h = omega arith
 end_within (t ∷ ts) (suc j) h = let k = end_within ts j h in omega arith
-
--- the answer for a tag that is no end, and for one that is
-pub not_met : (ts : List DrawTag) (j : ℕ) → ((get_or ts j nop).0 ≡ 0x21 → ⊥) → (None ≡ met_by ts j) × MeetsByReduction ts j None
-not_met ts j none = (
-  ap (λ b. cond b (latest (open_after 0 [] (take j ts))) None) (sym (ne_eqb (get_or ts j nop).0 0x21 none)),
-  λ i less begins ends. absurd (none ends),
-)
-
-pub met : (ts : List DrawTag) (j : ℕ) (r : Option ℕ) → j < length ts → (get_or ts j nop).0 ≡ 0x21 →
-    r ≡ latest (open_after 0 [] (take j ts)) → (r ≡ met_by ts j) × MeetsByReduction ts j r
-met ts j r within ends is = (
-  is ∙ ap (λ n. cond (eqb n 0x21) (latest (open_after 0 [] (take j ts))) None) (sym ends),
-  λ i less begins end.
-      let both = meeting_at ts i j nop less (omega arith) begins in
-      (λ e. both.0 (sym is ∙ e), λ e. is ∙ both.1 e),
-)

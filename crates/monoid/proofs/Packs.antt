@@ -1,6 +1,5 @@
 -- Tags packed into words: how many words there are, and that they count what the tags count. Assumes nothing.
-use Rattle.std.proofs.Common.{◌≡◌, ℕ, zero, suc, ◌+◌, ◌*◌, ◌/◌, ◌%◌, ◌^◌, ◌<◌, ◌≤◌, List, [], ◌∷◌, ◌++◌, length, map, get_or, take, drop, replicate, sym, refl, ap, ◌∙◌, arith, zero-mul, rules}
-use Rattle.std.proofs.lemmas.List.{map-append, take_more}
+use Rattle.std.proofs.Common.{◌≡◌, ℕ, zero, suc, ◌+◌, ◌*◌, ◌/◌, ◌%◌, ◌^◌, ◌<◌, ◌≤◌, List, [], ◌∷◌, ◌++◌, length, map, get_or, drop, replicate, sym, refl, ap, ◌∙◌, arith, zero-mul, rules}
 use Rattle.std.proofs.lemmas.Nat.{div-mul-add, mod-mul-add}
 use Rattle.std.specs.Simd.{first_chunks}
 use Rattle.monoid.specs.Laws.{Laws, reduced}
@@ -129,12 +128,6 @@ packed_rest (a ∷ b ∷ c ∷ d ∷ rest) some few = absurd (omega arith)
 pub packed_none : (rest : List PathTag) → length rest ≡ 0 → packed rest ≡ []
 packed_none [] none = refl
 packed_none (a ∷ rest) none = absurd (omega arith)
-
--- one four more
-pub more_fours : (fours : List (List PathTag)) (i : ℕ) (ws more : List ℕ) (w : ℕ) → i < length fours → ws ≡ map word_of (take i fours) → more ≡ ws ++ (w ∷ []) →
-    w ≡ word_of (get_or fours i []) → more ≡ map word_of (take (i + 1) fours)
-more_fours fours i ws more w less so_far pushed is =
-    pushed ∙ (λ j. so_far j ++ (is j ∷ [])) ∙ sym (map-append word_of (take i fours) (get_or fours i [] ∷ [])) ∙ ap (map word_of) (sym (take_more fours i [] less))
 
 pub packs : (ts : List PathTag) (ws : List ℕ) → ws ≡ packed ts → Packs ts ws
 packs ts ws e = record {

@@ -1,13 +1,9 @@
 use Rattle.std.proofs.Common.{◌≡◌, ◌/◌, ◌<◌, ◌++◌, [], ◌∷◌, map, drop, length, vec_items, sym, ap, ◌∙◌, append-nil, arith, rules, tests, take_all}
 use Rattle.std.specs.Simd.{first_chunks}
 use Rattle.monoid.specs.Packing.{blank, packed}
-use Rattle.monoid.proofs.Packs.{word_of, packs, packed_fours, packed_rest, packed_none, more_fours}
+use Rattle.monoid.proofs.Packs.{word_of, packs, packed_fours, packed_rest, packed_none}
 use Rattle.monoid.proofs.path.pack_tags.Goals as goal
 use Rattle.monoid.proofs.path.pack_tags.Goals.{then-not-is_empty+in_ok-push-2, else-not-is_empty}
-
-pub loop-a-preserved : goal.loop-a-preserved
-loop-a-preserved c =
-    more_fours _ c.loop-a.a-index _ _ _ c.loop-a-test.true c.loop-a.invariant c.in_ok-push.ensures.items c.tag_word.ensures
 
 pub returns : goal.returns
 returns c =

@@ -18,11 +18,3 @@ loop-i-preserved g c = (
       (λ d. let lt : c.loop-i.i < length c.loop-i.table = omega arith in rw get_or-set_same c.loop-i.invariant.1),
   λ k h d. let ne : k ≢ c.loop-i.i = omega arith in rw get_or-set_other (c.loop-i.invariant.3 k (omega arith) d),
 )
-
-pub returns : goal.returns
-returns g c = record {
-  few = omega arith;
-  room = omega arith;
-  rows = λ k h d. c.loop-i.invariant.2 k (omega arith) d;
-  rest = λ k h d. c.loop-i.invariant.3 k (omega arith) d;
-}

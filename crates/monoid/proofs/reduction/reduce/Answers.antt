@@ -18,15 +18,12 @@ loop-s-preserved g c = (
       c.loop-s-test.true c.s-item.is c.loop-s.invariant.1 c.new.ensures,
 )
 
-pub returns : goal.returns
-returns g c =
+pub returns-clause-bracketings : goal.returns-clause-bracketings
+returns-clause-bracketings g c =
     let m = g.M.Monoid in
     let total = reduced m.empty m.op m.source in
     let all = c.loop-s.invariant.1 ∙ ap total (take_all _ _ c.loop-s-test.false) in
     let short : length c.args.sources.now ≤ most = omega arith in
-    record {
-      reduces = (short, all);
-      bracketings = λ t e a gives.
-          subst (λ x. Means m.meaning x a) (ap total e ∙ sym all)
-          (bracketing-means m.meaning g.met.M.Monoid.monoid m.source m.Fits g.met.M.Monoid.few t (subst (λ ss. length ss ≤ most) (sym e) short) a gives);
-    }
+    λ t e a gives.
+    subst (λ x. Means m.meaning x a) (ap total e ∙ sym all)
+    (bracketing-means m.meaning g.met.M.Monoid.monoid m.source m.Fits g.met.M.Monoid.few t (subst (λ ss. length ss ≤ most) (sym e) short) a gives)

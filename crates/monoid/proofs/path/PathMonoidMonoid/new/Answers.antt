@@ -5,11 +5,6 @@ use Rattle.monoid.specs.PathTags.{bit, tag}
 use Rattle.monoid.proofs.Words.{bits_of, ones_16, ones_32, ones_64, words_of, segments_of, t0, t1, t2, t3}
 use Rattle.monoid.proofs.path.PathMonoidMonoid.new.Goals as goal
 
-pub overflow_mul-style_ix-2 : goal.overflow_mul-style_ix-2
-overflow_mul-style_ix-2 c =
-    let few = bits_of 64 (omega arith) (λ n. bit 6 (tag n)) ones_64 c.args.tag_word (omega arith) in
-    record { fits = omega arith }
-
 pub returns : goal.returns
 returns c =
     let w = c.args.tag_word in
