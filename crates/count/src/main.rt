@@ -6,7 +6,7 @@ mod input;
 mod report;
 
 use crate::input::read_sheet;
-use crate::report::{count, print_counts};
+use crate::report::{Report, count};
 use std::io;
 use std::process::ExitCode;
 
@@ -15,7 +15,11 @@ fn run(rt: &HostRuntime) -> anyhow::Result<()> {
     let text = io::read_to_string(heap, rt.stdin())?;
     let sheet = read_sheet(heap, text.as_str())?;
     let counts = count(heap, &sheet)?;
-    print_counts(rt, &sheet, &counts)?;
+    let report = Report {
+        sheet: &sheet,
+        counts: &counts,
+    };
+    print!(rt; "{report}")?;
     Ok(())
 }
 

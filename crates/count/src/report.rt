@@ -12,40 +12,20 @@ use monoid::path::{PathMonoid, PathTag, pack_tags};
 use monoid::reduction::{prefixes, reduce};
 use monoid::{CountError, Monoid};
 use std::alloc::{AllocError, Global};
-use std::error::Error;
-use std::{fmt, io};
+use std::fmt;
+use thiserror::Error;
 
 /// Why a sheet was not counted.
-#[derive(Clone, Copy, Debug)]
+#[derive(Clone, Copy, Debug, PartialEq, Eq, Error)]
 pub enum ReportError {
-    Declined(u32),
-    NoMemory,
+    #[error("declined {}", .0.number())]
+    Declined(#[from] CountError),
+    #[error("out of memory")]
+    NoMemory(#[from(alloc)] AllocError),
 }
-
-impl From<CountError> for ReportError {
-    fn from(e: CountError) -> ReportError {
-        ReportError::Declined(e.number())
-    }
-}
-
-impl From<AllocError> for ReportError {
-    fn from(_e: AllocError) -> ReportError {
-        ReportError::NoMemory
-    }
-}
-
-impl fmt::Display for ReportError {
-    fn fmt<W: fmt::Write>(&self, f: &mut fmt::Formatter<W>) -> fmt::Result {
-        match *self {
-            ReportError::Declined(n) => write!(f, "declined {n}"),
-            ReportError::NoMemory => f.write_str("out of memory"),
-        }
-    }
-}
-
-impl Error for ReportError {}
 
 /// The totals of a sheet, and the record of the draw tags before each.
+// The rows stand beside the sheet's tags and not with them, as one call fills a table of records.
 #[derive(Drop)]
 pub struct Counts {
     paths: PathMonoid,
@@ -69,9 +49,7 @@ pub fn count(heap: Global, sheet: &Sheet) -> Result<Counts, ReportError>
     let paths = path_totals(heap, sheet.path_tags.as_slice())?;
     let draws: DrawMonoid = reduce(sheet.draw_tags.as_slice())?;
     let clip: ClipBic = reduce(sheet.draw_tags.as_slice())?;
-    let mut rows = vec![in heap; <DrawMonoid as monoid::Monoid>::identity(); sheet
-        .draw_tags
-        .len()]?;
+    let mut rows = vec![in heap; DrawMonoid::identity(); sheet.draw_tags.len()]?;
     prefixes(sheet.draw_tags.as_slice(), rows.as_mut_slice())?;
     Ok(Counts {
         paths,
@@ -81,67 +59,68 @@ pub fn count(heap: Global, sheet: &Sheet) -> Result<Counts, ReportError>
     })
 }
 
-fn print_draws(rt: &HostRuntime, m: &DrawMonoid) -> io::Result<()> {
-    let DrawMonoid {
-        path_ix,
-        clip_ix,
-        scene_offset,
-        info_offset,
-    } = *m;
-    print!(rt;
-        "path_ix {path_ix} clip_ix {clip_ix} scene_offset {scene_offset} info_offset {info_offset}"
-    )
+// What draw tags count, as it is printed.
+#[derive(Clone, Copy)]
+struct Draws<'a>(&'a DrawMonoid);
+
+impl fmt::Display for Draws<'_> {
+    fn fmt<W: fmt::Write>(&self, f: &mut fmt::Formatter<W>) -> fmt::Result {
+        let DrawMonoid {
+            path_ix,
+            clip_ix,
+            scene_offset,
+            info_offset,
+        } = *self.0;
+        write!(
+            f,
+            "path_ix {path_ix} clip_ix {clip_ix} scene_offset {scene_offset} info_offset {info_offset}"
+        )
+    }
 }
 
-// One draw tag: its place and number, what is counted before it, and for an end the begin that it meets.
-fn print_row(rt: &HostRuntime, tags: &[DrawTag], i: usize, before: &DrawMonoid) -> io::Result<()> {
-    let Some(tag) = tags.get(i) else {
-        return Ok(());
-    };
-    let number = tag.0;
-    print!(rt; "draw {i}: tag {number:X} ")?;
-    print_draws(rt, before)?;
-    if number == DrawTag::END_CLIP.0 {
-        match begin_met(tags, i) {
-            Some(begin) => print!(rt; " meets {begin}")?,
-            None => print!(rt; " meets none")?,
+/// A sheet and its counts, as they are printed: the totals, a row for each draw tag, and the conversions. The row of an
+/// end names the begin that it meets.
+#[derive(Clone, Copy)]
+pub struct Report<'a> {
+    pub sheet: &'a Sheet,
+    pub counts: &'a Counts,
+}
+
+impl fmt::Display for Report<'_> {
+    fn fmt<W: fmt::Write>(&self, f: &mut fmt::Formatter<W>) -> fmt::Result {
+        let PathMonoid {
+            trans_ix,
+            pathseg_ix,
+            pathseg_offset,
+            style_ix,
+            path_ix,
+        } = self.counts.paths;
+        writeln!(
+            f,
+            "path_totals: trans_ix {trans_ix} pathseg_ix {pathseg_ix} pathseg_offset {pathseg_offset} style_ix {style_ix} path_ix {path_ix}"
+        )?;
+        writeln!(f, "draw_totals: {}", Draws(&self.counts.draws))?;
+        let ClipBic { a, b } = self.counts.clip;
+        writeln!(f, "clip: {a} {b}")?;
+        let tags = self.sheet.draw_tags.as_slice();
+        for (i, (tag, before)) in tags.iter().zip(&self.counts.rows).enumerate() {
+            write!(f, "draw {i}: tag {:X} {}", tag.0, Draws(before))?;
+            if *tag == DrawTag::END_CLIP {
+                match begin_met(tags, i) {
+                    Some(begin) => write!(f, " meets {begin}")?,
+                    None => write!(f, " meets none")?,
+                }
+            }
+            writeln!(f)?;
         }
+        for single in &self.sheet.singles {
+            let half = f32_to_f16(*single);
+            writeln!(f, "f32_to_f16: {single:08X} {half:04X}")?;
+        }
+        for half in &self.sheet.halves {
+            let single = f16_to_f32(*half);
+            writeln!(f, "f16_to_f32: {half:04X} {single:08X}")?;
+        }
+        Ok(())
     }
-    println!(rt; "")
-}
-
-/// Prints the totals, a row for each draw tag, and the conversions.
-pub fn print_counts(rt: &HostRuntime, sheet: &Sheet, counts: &Counts) -> io::Result<()> {
-    let PathMonoid {
-        trans_ix,
-        pathseg_ix,
-        pathseg_offset,
-        style_ix,
-        path_ix,
-    } = counts.paths;
-    println!(rt;
-        "path_totals: trans_ix {trans_ix} pathseg_ix {pathseg_ix} pathseg_offset {pathseg_offset} style_ix {style_ix} path_ix {path_ix}"
-    )?;
-    print!(rt; "draw_totals: ")?;
-    print_draws(rt, &counts.draws)?;
-    println!(rt; "")?;
-    let ClipBic { a, b } = counts.clip;
-    println!(rt; "clip: {a} {b}")?;
-    for (i, row) in counts.rows.iter().enumerate() {
-        print_row(rt, sheet.draw_tags.as_slice(), i, row)?;
-    }
-    print_conversions(rt, sheet)
-}
-
-// The halves of the singles, and the singles of the halves.
-fn print_conversions(rt: &HostRuntime, sheet: &Sheet) -> io::Result<()> {
-    for single in sheet.singles.iter() {
-        let half = f32_to_f16(*single);
-        println!(rt; "f32_to_f16: {single:08X} {half:04X}")?;
-    }
-    for half in sheet.halves.iter() {
-        let single = f16_to_f32(*half);
-        println!(rt; "f16_to_f32: {half:04X} {single:08X}")?;
-    }
-    Ok(())
 }
