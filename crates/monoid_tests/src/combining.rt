@@ -42,108 +42,57 @@ fn sums_that_do_not_fit(rt: HostRuntime) {
         pathseg_offset: 4294967295,
         ..PathMonoid::identity()
     };
-    assert!(rt; full.combine(&PathMonoid::new(0x09)).is_err());
+    assert_eq!(rt;
+        full.combine(&PathMonoid::new(0x09)),
+        Err(CountError::DoesNotFit)
+    );
     assert!(rt; full.combine(&PathMonoid::new(0x70)).is_ok());
     let drawn = DrawMonoid {
         info_offset: 4294967295,
         ..DrawMonoid::identity()
     };
-    assert!(rt; drawn.combine(&DrawMonoid::new(DrawTag::COLOR)).is_err());
+    assert_eq!(rt;
+        drawn.combine(&DrawMonoid::new(DrawTag::COLOR)),
+        Err(CountError::DoesNotFit)
+    );
     assert!(rt; drawn.combine(&DrawMonoid::new(DrawTag::END_CLIP)).is_ok());
 }
 
-// What words of path tags count, each field by its name in `PathMonoid`.
-const WORDS: [(u32, PathMonoid); 4] = [
-    (
-        0x09094020,
-        PathMonoid {
-            trans_ix: 1,
-            pathseg_ix: 2,
-            pathseg_offset: 4,
-            style_ix: 2,
-            path_ix: 0,
-        },
-    ),
-    (
-        0x0e0b0a01,
-        PathMonoid {
-            trans_ix: 0,
-            pathseg_ix: 4,
-            pathseg_offset: 17,
-            style_ix: 0,
-            path_ix: 0,
-        },
-    ),
-    (
-        0xffffffff,
-        PathMonoid {
-            trans_ix: 4,
-            pathseg_ix: 4,
-            pathseg_offset: 32,
-            style_ix: 8,
-            path_ix: 4,
-        },
-    ),
-    (
-        0x80808080,
-        PathMonoid {
-            trans_ix: 0,
-            pathseg_ix: 0,
-            pathseg_offset: 0,
-            style_ix: 0,
-            path_ix: 0,
-        },
-    ),
-];
+fn paths(
+    trans_ix: u32,
+    pathseg_ix: u32,
+    pathseg_offset: u32,
+    style_ix: u32,
+    path_ix: u32,
+) -> PathMonoid {
+    PathMonoid {
+        trans_ix,
+        pathseg_ix,
+        pathseg_offset,
+        style_ix,
+        path_ix,
+    }
+}
 
-// And what draw tags count.
-const TAGS: [(DrawTag, DrawMonoid); 4] = [
-    (
-        DrawTag::BLUR_RECT,
-        DrawMonoid {
-            path_ix: 1,
-            clip_ix: 0,
-            scene_offset: 5,
-            info_offset: 11,
-        },
-    ),
-    (
-        DrawTag::BEGIN_CLIP,
-        DrawMonoid {
-            path_ix: 1,
-            clip_ix: 1,
-            scene_offset: 2,
-            info_offset: 1,
-        },
-    ),
-    (
-        DrawTag::END_CLIP,
-        DrawMonoid {
-            path_ix: 1,
-            clip_ix: 1,
-            scene_offset: 0,
-            info_offset: 0,
-        },
-    ),
-    (
-        DrawTag::NOP,
-        DrawMonoid {
-            path_ix: 0,
-            clip_ix: 0,
-            scene_offset: 0,
-            info_offset: 0,
-        },
-    ),
-];
+fn draws(path_ix: u32, clip_ix: u32, scene_offset: u32, info_offset: u32) -> DrawMonoid {
+    DrawMonoid {
+        path_ix,
+        clip_ix,
+        scene_offset,
+        info_offset,
+    }
+}
 
 #[test]
 fn one_source(rt: HostRuntime) {
-    for (word, counted) in WORDS {
-        assert_eq!(rt; PathMonoid::new(word), counted);
-    }
-    for (tag, counted) in TAGS {
-        assert_eq!(rt; DrawMonoid::new(tag), counted);
-    }
+    assert_eq!(rt; PathMonoid::new(0x09094020), paths(1, 2, 4, 2, 0));
+    assert_eq!(rt; PathMonoid::new(0x0e0b0a01), paths(0, 4, 17, 0, 0));
+    assert_eq!(rt; PathMonoid::new(0xffffffff), paths(4, 4, 32, 8, 4));
+    assert_eq!(rt; PathMonoid::new(0x80808080), paths(0, 0, 0, 0, 0));
+    assert_eq!(rt; DrawMonoid::new(DrawTag::BLUR_RECT), draws(1, 0, 5, 11));
+    assert_eq!(rt; DrawMonoid::new(DrawTag::BEGIN_CLIP), draws(1, 1, 2, 1));
+    assert_eq!(rt; DrawMonoid::new(DrawTag::END_CLIP), draws(1, 1, 0, 0));
+    assert_eq!(rt; DrawMonoid::new(DrawTag::NOP), draws(0, 0, 0, 0));
 }
 
 #[test]

@@ -15,7 +15,7 @@ fn path_tags(rt: HostRuntime) {
     tag.set_subpath_end();
     tag.set_subpath_end();
     assert!(rt; tag.is_subpath_end());
-    assert_eq!(rt; tag.0, 0xe);
+    assert_eq!(rt; tag, PathTag(0xe));
     assert!(rt; !PathTag::PATH.is_path_segment());
     assert!(rt; !PathTag::STYLE.is_f32());
     assert!(rt; PathTag(1).is_path_segment());
@@ -39,17 +39,13 @@ fn packing(rt: HostRuntime) -> Result<(), Fail> {
         PathTag(0x10),
     ];
     let none = pack_tags(rt.alloc(), &tags[0..0])?;
-    assert_eq!(rt; none.len(), 0);
+    assert!(rt; none.is_empty());
     let four = pack_tags(rt.alloc(), &tags[0..4])?;
-    assert!(rt; four.len() == 1);
-    assert_eq!(rt; four[0], 0x09094020);
+    assert_eq!(rt; four.as_slice(), [0x09094020].as_slice());
     let three = pack_tags(rt.alloc(), &tags[0..3])?;
-    assert!(rt; three.len() == 1);
-    assert_eq!(rt; three[0], 0x00094020);
+    assert_eq!(rt; three.as_slice(), [0x00094020].as_slice());
     let six = pack_tags(rt.alloc(), &tags)?;
-    assert!(rt; six.len() == 2);
-    assert_eq!(rt; six[0], 0x09094020);
-    assert_eq!(rt; six[1], 0x0000100d);
+    assert_eq!(rt; six.as_slice(), [0x09094020, 0x0000100d].as_slice());
     Ok(())
 }
 
