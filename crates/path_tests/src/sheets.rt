@@ -36,7 +36,7 @@ fn finished(
     let mut own_tags = blank_tags();
     let mut own_words = blank_words();
     let mut path = OpenPath::new(is_fill);
-    assert!(rt; take_all(&mut path, &mut own_tags, &mut own_words, steps));
+    assert!(rt; take_all(&mut path, &mut own_tags, &mut own_words, steps).is_ok());
     let Ok(f) = path.try_finish(&mut own_tags, &mut own_words, insert_path_marker) else {
         return Err(Fail::new("declined"));
     };
@@ -51,7 +51,7 @@ fn drawn(rt: &impl Abort, is_fill: bool, steps: &[Step], tags: &[u8], words: &[u
     let mut own_tags = blank_tags();
     let mut own_words = blank_words();
     let mut path = OpenPath::new(is_fill);
-    assert!(rt; take_all(&mut path, &mut own_tags, &mut own_words, steps));
+    assert!(rt; take_all(&mut path, &mut own_tags, &mut own_words, steps).is_ok());
     let used = path.used();
     assert!(rt; tags_are(&own_tags, used.tags, tags));
     assert!(rt; words_are(&own_words, used.words, words));

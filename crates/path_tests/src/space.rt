@@ -1,28 +1,25 @@
 // Calls that lack space.
-use crate::drawing::{
-    FILL, STROKE, at, begin_tags, begin_words, blank_tags, blank_words, code, make, take_all,
-};
+use crate::drawing::{FILL, STROKE, at, blank_tags, blank_words, make, take_all};
 use geometry::points::Segment;
 use monoid::path::PathTag;
 use path::open_path::OpenPath;
-use path::state::{Call, Step, Used};
+use path::state::{Call, Declined, Step, Stream, Used};
 use std::process::Abort;
-use std::test::Fail;
 
 const FOUR: u32 = 0x4080_0000;
 
 // The answer that a call must get from so many entries: what is in use, then what the call leaves, the tags first.
-fn expected(used: Used, after: Used, tags: usize, words: usize) -> u32 {
+fn expected(used: Used, after: Used, tags: usize, words: usize) -> Result<(), Declined> {
     if tags < used.tags {
-        10
+        Err(Declined::Short(Stream::PathTags))
     } else if words < used.words {
-        11
+        Err(Declined::Short(Stream::PathData))
     } else if tags < after.tags {
-        20
+        Err(Declined::Full(Stream::PathTags))
     } else if words < after.words {
-        21
+        Err(Declined::Full(Stream::PathData))
     } else {
-        0
+        Ok(())
     }
 }
 
@@ -30,7 +27,7 @@ fn expected(used: Used, after: Used, tags: usize, words: usize) -> u32 {
 fn drawn(rt: &impl Abort, is_fill: bool, tags: &mut [PathTag], words: &mut [u32]) -> OpenPath {
     let mut path = OpenPath::new(is_fill);
     let steps = [Step::Move(at(0, 0)), Step::Draw(Segment::Line(at(FOUR, 0)))];
-    assert!(rt; take_all(&mut path, tags, words, &steps));
+    assert!(rt; take_all(&mut path, tags, words, &steps).is_ok());
     path
 }
 
@@ -43,40 +40,21 @@ fn called(
     given: (&[PathTag], &[u32]),
     call: Call,
     after: Used,
-) -> Result<(), Fail> {
+) {
     let used = path.used();
     let t = tags.len();
     let w = words.len();
-    match path.needs(tags, words, call) {
-        Ok(needs) => {
-            assert!(rt; expected(used, used, t, w) == 0);
-            assert!(rt; needs.tags == after.tags && needs.words == after.words);
-        }
-        Err(d) => assert!(rt; expected(used, used, t, w) == code(d)),
-    }
-    match make(path, tags, words, call) {
-        Ok(now) => {
-            assert!(rt; expected(used, after, t, w) == 0);
-            assert!(rt; now.tags == after.tags && now.words == after.words);
-            Ok(())
-        }
-        Err(d) => {
-            assert!(rt; begin_tags(tags, given.0) && begin_words(words, given.1));
-            assert!(rt; expected(used, after, t, w) == code(d));
-            Ok(())
-        }
+    let needs = path.needs(tags, words, call);
+    assert!(rt; needs == expected(used, used, t, w).map(|_| after));
+    let answer = make(path, tags, words, call);
+    assert!(rt; answer == expected(used, after, t, w).map(|_| after));
+    if answer.is_err() {
+        assert!(rt; given.0.starts_with(tags) && given.1.starts_with(words));
     }
 }
 
 // One call, lent the first so many entries.
-fn lent(
-    rt: &impl Abort,
-    is_fill: bool,
-    call: Call,
-    after: Used,
-    t: usize,
-    w: usize,
-) -> Result<(), Fail> {
+fn lent(rt: &impl Abort, is_fill: bool, call: Call, after: Used, t: usize, w: usize) {
     let mut tags = blank_tags();
     let mut words = blank_words();
     let _ = drawn(rt, is_fill, &mut tags, &mut words);
@@ -92,7 +70,7 @@ fn lent(
         (&tags, &words),
         call,
         after,
-    )
+    );
 }
 
 // The calls, and what each leaves in use of a fill and of a stroke.
@@ -120,14 +98,13 @@ fn uses(tags: usize, words: usize) -> Used {
 }
 
 #[test]
-fn any_space(rt: HostRuntime) -> Result<(), Fail> {
+fn any_space(rt: HostRuntime) {
     for (call, of_fill, of_stroke) in calls() {
         for t in 0..6 {
             for w in 0..14 {
-                lent(&rt, FILL, call, of_fill, t, w)?;
-                lent(&rt, STROKE, call, of_stroke, t, w)?;
+                lent(&rt, FILL, call, of_fill, t, w);
+                lent(&rt, STROKE, call, of_stroke, t, w);
             }
         }
     }
-    Ok(())
 }

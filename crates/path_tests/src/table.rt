@@ -28,7 +28,8 @@ pub enum Then {
     Finish,
 }
 
-// The tags and the words' numbers after the call, and those after a finish without the path's tag.
+// The tags and the words' numbers after the call, and those after a finish without the path's tag. Rows are tuples, as
+// names in each of 48 rows would hide the table.
 type Row = (
     bool,
     Before,
@@ -339,15 +340,12 @@ fn entries_are(
     row_tags: &[u8],
     row_words: &[u8],
 ) -> bool {
-    for (i, n) in row_words.iter().enumerate() {
-        let Some(w) = words.get(i) else {
-            return false;
-        };
-        if *w != pattern(*n) {
-            return false;
-        }
-    }
-    used.words == row_words.len() && tags_are(tags, used.tags, row_tags)
+    used.words == row_words.len()
+        && words
+            .iter()
+            .zip(row_words)
+            .all(|(word, n)| *word == pattern(*n))
+        && tags_are(tags, used.tags, row_tags)
 }
 
 fn check_row(rt: &impl Abort, row: Row) -> Result<(), Fail> {
