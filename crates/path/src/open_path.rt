@@ -17,6 +17,7 @@ pub use crate::open_path::steps::{Close, Move, PathStep};
 #[derive(Drop)]
 pub struct OpenPath {
     state: PathState,
+    // Whether there was a first point. An open subpath has one, so an Option would be taken apart where it holds one.
     moved: bool,
     is_fill: bool,
     first_point: Point,
