@@ -39,18 +39,18 @@ fn path_totals(heap: Global, tags: &[PathTag]) -> Result<PathMonoid, ReportError
     ensures { IfOk result (λ m. counts_of m ≡ reduced none plus from_tag tags.now) }
 {
     let words = pack_tags(heap, tags)?;
-    Ok(reduce(words.as_slice())?)
+    Ok(reduce(&words)?)
 }
 
 /// The counts of a sheet. It is declined for want of memory, and for too many tags.
 pub fn count(heap: Global, sheet: &Sheet) -> Result<Counts, ReportError>
     ensures { IfOk result (λ c. Counted sheet.now c) }
 {
-    let paths = path_totals(heap, sheet.path_tags.as_slice())?;
-    let draws: DrawMonoid = reduce(sheet.draw_tags.as_slice())?;
-    let clip: ClipBic = reduce(sheet.draw_tags.as_slice())?;
+    let paths = path_totals(heap, &sheet.path_tags)?;
+    let draws: DrawMonoid = reduce(&sheet.draw_tags)?;
+    let clip: ClipBic = reduce(&sheet.draw_tags)?;
     let mut rows = vec![in heap; DrawMonoid::identity(); sheet.draw_tags.len()]?;
-    prefixes(sheet.draw_tags.as_slice(), rows.as_mut_slice())?;
+    prefixes(&sheet.draw_tags, &mut rows)?;
     Ok(Counts {
         paths,
         draws,
@@ -102,7 +102,7 @@ impl fmt::Display for Report<'_> {
         writeln!(f, "draw_totals: {}", Draws(&self.counts.draws))?;
         let ClipBic { a, b } = self.counts.clip;
         writeln!(f, "clip: {a} {b}")?;
-        let tags = self.sheet.draw_tags.as_slice();
+        let tags = &self.sheet.draw_tags;
         for (i, (tag, before)) in tags.iter().zip(&self.counts.rows).enumerate() {
             write!(f, "draw {i}: tag {:X} {}", tag.0, Draws(before))?;
             if *tag == DrawTag::END_CLIP {
