@@ -7,7 +7,7 @@ use Rattle.geometry.specs.Segments.{tangent_end, too_short, same_point}
 use Rattle.path.specs.declared.state.PathState.{PathState}
 use Rattle.path.specs.declared.state.PathState.TheVariants.{Start, MoveTo, NonemptySubpath}
 use Rattle.path.specs.Entries.{last_point}
-use Rattle.path.specs.Rules.{Path, write, put, join, mark_end, put_marker, close, close_in, leave, leave_in, put_first, draw, draw_in, segment_to, segment_in}
+use Rattle.path.specs.Rules.{Path, write, put, join, close, close_in, leave, leave_in, put_first, draw, draw_in, segment_to, segment_in}
 
 pub put-short : (s : Segment) (m : Path) → too_short (last_point m.own.words) s ≡ true → put s m ≡ m
 unfolding put
@@ -28,12 +28,6 @@ join_apart m h = rw h
 pub close_at : (z : PathState) (m : Path) → m.state ≡ z → close m ≡ close_in z m
 unfolding close
 close_at z m h = ap (λ s. close_in s m) h
-
-pub close-fill : (m : Path) → m.state ≡ NonemptySubpath → m.fill ≡ true → close m ≡ mark_end (join m)
-close-fill m h f = close_at NonemptySubpath m h ∙ ap (λ b. mark_end (cond b (join m) (put_marker true (join m)))) f
-
-pub close-stroke : (m : Path) → m.state ≡ NonemptySubpath → m.fill ≡ false → close m ≡ mark_end (put_marker true (join m))
-close-stroke m h f = close_at NonemptySubpath m h ∙ ap (λ b. mark_end (cond b (join m) (put_marker true (join m)))) f
 
 pub leave-fill : (m : Path) → m.fill ≡ true → leave m ≡ close m
 unfolding leave
@@ -70,7 +64,7 @@ pub segment_open : (s : Segment) (m : Path) → m.state ≡ NonemptySubpath → 
 segment_open s m h = segment-at NonemptySubpath s m h ∙ draw-at NonemptySubpath s m h
 
 -- an open subpath stays open
-either_state : (b : Bool) (m n : Path) (z : PathState) → m.state ≡ z → n.state ≡ z → (cond b m n).state ≡ z
+pub either_state : (b : Bool) (m n : Path) (z : PathState) → m.state ≡ z → n.state ≡ z → (cond b m n).state ≡ z
 either_state true m n z h k = h
 either_state false m n z h k = k
 

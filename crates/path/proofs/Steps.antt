@@ -15,7 +15,7 @@ use Rattle.path.specs.Opening.{draws, draws_in, opened, opened_in}
 use Rattle.path.specs.View.{Lent, view, Room, Ready, Does}
 use Rattle.path.proofs.Lists.{length-end_last}
 use Rattle.path.proofs.Finish.{bounds}
-use Rattle.path.proofs.Cases.{draw-at, close_at, put_open}
+use Rattle.path.proofs.Cases.{draw-at, close_at, either_state, join_open, put_open}
 
 pub as_rule : (f g : Path → Path) (a b : Lent) → f (view a) ≡ g (view a) → Does f a b → Does g a b
 as_rule f g a b e d = record { shows = d.shows ∙ e; kept = d.kept }
@@ -211,11 +211,15 @@ does_moved s a b r e h p = as_rule (opened (end_point s)) (segment_to s) a b (sy
 pub state-after : (f : Path → Path) (z : PathState) (a b : Lent) → Does f a b → (f (view a)).state ≡ z → b.path.state ≡ z
 state-after f z a b d e = ap (λ (m : Path). m.state) d.shows ∙ e
 
--- a subpath that is closed: the room for the line back, and that it stays a stroke's
+-- a subpath that is closed, before its last tag is marked
+abbrev pub closing : Path → Path
+closing m = cond m.fill (join m) (put_marker true (join m))
+
+pub room-closing : (m : Path) (t w : ℕ) → m.state ≡ NonemptySubpath → Room (close m) t w → Room (closing m) t w
+room-closing m t w h r = room_mark (closing m) t w (room_as _ _ t w (close_at NonemptySubpath m h) r)
+
 pub room-close : (m : Path) (t w : ℕ) → m.state ≡ NonemptySubpath → Room (close m) t w → Room (join m) t w
-room-close m t w h r =
-    room_either m.fill (join m) (put_marker true (join m)) t w (room-put (marker true (join m)) (join m) t w)
-    (room_mark (cond m.fill (join m) (put_marker true (join m))) t w (room_as _ _ t w (close_at NonemptySubpath m h) r))
+room-close m t w h r = room_either m.fill (join m) (put_marker true (join m)) t w (room-put (marker true (join m)) (join m) t w) (room-closing m t w h r)
 
 either_fill : (b : Bool) (m n : Path) → n.fill ≡ m.fill → (cond b m n).fill ≡ m.fill
 either_fill true m n e = refl
@@ -225,8 +229,18 @@ join-fill : (m : Path) → (join m).fill ≡ m.fill
 unfolding join
 join-fill m = either_fill (same_point (last_point m.own.words) m.first) m (write (Line m.first) m) refl
 
-pub stroke-joined : (a b : Lent) → Does join a b → a.path.is_fill ≡ false → b.path.is_fill ≡ false
-stroke-joined a b d f = ap (λ (m : Path). m.fill) d.shows ∙ join-fill (view a) ∙ f
+-- it stays a fill's or a stroke's once the line back is drawn
+pub closing-as : (v : Bool) (a b : Lent) → Does join a b → b.path.is_fill ≡ v → closing (view a) ≡ cond v (join (view a)) (put_marker true (join (view a)))
+closing-as v a b d f = ap (λ x. cond x (join (view a)) (put_marker true (join (view a)))) (sym (join-fill (view a)) ∙ sym (ap (λ (m : Path). m.fill) d.shows) ∙ f)
+
+pub closing-fill : (a b : Lent) → Does join a b → b.path.is_fill ≡ true → Does closing a b
+closing-fill a b d f = as_rule join closing a b (sym (closing-as true a b d f)) d
+
+pub closing-stroke : (a b e : Lent) → Does join a b → b.path.is_fill ≡ false → Does (put_marker true) b e → Does closing a e
+closing-stroke a b e d f p = as_rule (λ m. put_marker true (join m)) closing a e (sym (closing-as false a b d f)) (and_then join (put_marker true) a b e d p)
 
 pub marked_open : (b : Bool) (m : Path) → m.state ≡ NonemptySubpath → (put_marker b m).state ≡ NonemptySubpath
 marked_open b m h = put_open (marker b m) m h
+
+pub closing_open : (m : Path) → m.state ≡ NonemptySubpath → (closing m).state ≡ NonemptySubpath
+closing_open m h = either_state m.fill (join m) (put_marker true (join m)) NonemptySubpath (join_open m h) (marked_open true (join m) (join_open m h))

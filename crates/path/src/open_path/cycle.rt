@@ -1,6 +1,6 @@
 // The calls on an open path that has space for them. `move_to`, `line_to`, `quad_to` and `close` call one another, as a
 // marker is drawn by the calls that draw. Calls of a cycle have the same type parameters, so each kind has its own.
-ghost use Rattle.std.specs.Prelude.{◌≡◌, ◌≤◌, false, ◌≢◌, length};
+ghost use Rattle.std.specs.Prelude.{◌≡◌, ◌≤◌, ◌≢◌, length};
 ghost use Rattle.geometry.specs.declared.points.Segment.TheVariants as Of;
 ghost use Rattle.path.specs.declared.state.PathState.TheVariants.{Start, MoveTo, NonemptySubpath};
 ghost use Rattle.path.specs.Rules.{write, put, join, draw, begin, drop_move, mark_end, put_marker, close as close_rule, leave, move_to, segment_to, finish as finish_rule};
@@ -108,14 +108,11 @@ impl OpenPath {
             PathState::Start => {}
             PathState::MoveTo => self.drop_move(tags, words),
             PathState::NonemptySubpath => {
-                let is_fill = self.is_fill;
                 self.join_first(tags, words);
-                if is_fill {
-                    self.mark_end(tags, words);
-                } else {
+                if !self.is_fill {
                     self.insert_marker(tags, words, true);
-                    self.mark_end(tags, words);
                 }
+                self.mark_end(tags, words);
             }
         }
     }
@@ -124,7 +121,6 @@ impl OpenPath {
     #[cycle(path_calls)]
     fn insert_marker(&mut self, tags: &mut [PathTag], words: &mut [u32], is_closed: bool)
         requires ready { Ready (put_marker is_closed) (lent self.old tags.old words.old) }
-        requires stroke { self.old.is_fill ≡ false }
         requires drawn { self.old.state ≡ NonemptySubpath }
         ensures { Does (put_marker is_closed) (lent self.old tags.old words.old) (lent self.new tags.new words.new) }
     {
@@ -132,8 +128,7 @@ impl OpenPath {
         if is_closed {
             self.line_to(tags, words, tangent_end);
         } else {
-            let first = self.first_point;
-            self.quad_to(tags, words, first, tangent_end);
+            self.quad_to(tags, words, self.first_point, tangent_end);
         }
     }
 
@@ -177,8 +172,7 @@ impl OpenPath {
         match self.state {
             PathState::Start => {
                 if self.moved {
-                    let first = self.first_point;
-                    self.move_to(tags, words, first);
+                    self.move_to(tags, words, self.first_point);
                     true
                 } else {
                     self.move_to(tags, words, end);

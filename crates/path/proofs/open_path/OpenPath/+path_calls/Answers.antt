@@ -4,9 +4,10 @@ use Rattle.geometry.specs.declared.points.Segment.TheVariants.{Line, Quad}
 use Rattle.path.specs.declared.state.PathState.TheVariants.{Start, MoveTo, NonemptySubpath}
 use Rattle.path.specs.Rules.{join, close, leave, move_to, segment_to, mark_end, drop_move, put_marker}
 use Rattle.path.specs.Opening.{opened}
-use Rattle.path.specs.View.{lent, view}
-use Rattle.path.proofs.Cases.{close_at, close-fill, close-stroke, leave-fill, leave-at, segment_open, join_open}
-use Rattle.path.proofs.Steps.{as_rule, and_then, ready_as, ready_next, room_as, room_mark, room-begin, room-close, state-after, stroke-joined, marked_open, ready_opened, ready_drawn, begun_drawn, does_drawn, does_moved, opened_again, opened-first, opened_begun, draws-at_start, draws_begun}
+use Rattle.path.specs.View.{lent, view, Does}
+use Rattle.path.proofs.Cases.{close_at, leave-fill, leave-at, segment_open, join_open}
+use Rattle.path.proofs.Steps.{as_rule, and_then, ready_as, ready_next, room_as, room_mark, room-begin, room-close, state-after, closing, room-closing, closing-as, closing-fill, closing-stroke, closing_open, marked_open, ready_opened, ready_drawn, begun_drawn, does_drawn, does_moved, opened_again, opened-first, opened_begun, draws-at_start, draws_begun}
+use Rattle.path.proofs.open_path.OpenPath.+path_calls.Goals.{close-then-not-self, close-else-not-self}
 use Rattle.path.proofs.open_path.OpenPath.+path_calls.Goals as goal
 
 pub close-drop_move-requires : goal.close-drop_move-requires
@@ -19,37 +20,32 @@ close-join_first-requires t c =
     let a = lent c.args.self.now c.args.tags.now c.args.words.now in
     record { ready = record { held = c.requires.held; room = room-close (view a) _ _ c.in-NonemptySubpath.is c.requires.room }; point = search rules }
 
-pub close-mark_end-requires : goal.close-mark_end-requires
-close-mark_end-requires t c =
-    let a = lent c.args.self.now c.args.tags.now c.args.words.now in
-    let b = lent c.join_first.new.self c.join_first.new.tags c.join_first.new.words in
-    record {
-      ready = ready_next join mark_end a b c.join_first.ensures (omega arith) (omega arith) (room_as _ _ _ _ (close-fill (view a) c.in-NonemptySubpath.is c.if-is_fill.true) c.requires.room);
-      drawn = state-after join NonemptySubpath a b c.join_first.ensures (join_open (view a) c.in-NonemptySubpath.is);
-    }
-
 pub close-insert_marker-requires : goal.close-insert_marker-requires
 close-insert_marker-requires t c =
     let a = lent c.args.self.now c.args.tags.now c.args.words.now in
     let b = lent c.join_first.new.self c.join_first.new.tags c.join_first.new.words in
+    let f : c.join_first.new.self.is_fill ≡ false = cc in
     let st : c.join_first.new.self.state ≡ NonemptySubpath = state-after join NonemptySubpath a b c.join_first.ensures (join_open (view a) c.in-NonemptySubpath.is) in (
       search rules,
       (
         ready_next join (put_marker true) a b c.join_first.ensures (omega arith) (omega arith)
-            (room_mark (put_marker true (join (view a))) _ _ (room_as _ _ _ _ (close-stroke (view a) c.in-NonemptySubpath.is c.if-is_fill.false) c.requires.room)),
-        (stroke-joined a b c.join_first.ensures c.if-is_fill.false, st),
+            (room_as _ _ _ _ (closing-as false a b c.join_first.ensures f) (room-closing (view a) _ _ c.in-NonemptySubpath.is c.requires.room)),
+        st,
       ),
     )
 
-pub close-mark_end-requires-else-is_fill : goal.close-mark_end-requires-else-is_fill
-close-mark_end-requires-else-is_fill t c =
+pub close-mark_end-requires : goal.close-mark_end-requires
+close-mark_end-requires t c =
     let a = lent c.args.self.now c.args.tags.now c.args.words.now in
     let b = lent c.join_first.new.self c.join_first.new.tags c.join_first.new.words in
-    let d = lent c.insert_marker.new.self c.insert_marker.new.tags c.insert_marker.new.words in
-    let p = and_then join (put_marker true) a b d c.join_first.ensures c.insert_marker.ensures in
+    let d = lent c.if-not-self.self c.if-not-self.tags c.if-not-self.words in
+    let p : Does closing a d = elim c.if-not-self.branch [
+      | close-then-not-self w ↦ let f : c.join_first.new.self.is_fill ≡ false = cc in rw (w.self-is, w.tags-is, w.words-is) (closing-stroke a b _ c.join_first.ensures f w.insert_marker.ensures)
+      | close-else-not-self w ↦ let f : c.join_first.new.self.is_fill ≡ true = cc in rw (w.self-is, w.tags-is, w.words-is) (closing-fill a b c.join_first.ensures f)
+    ] in
     record {
-      ready = ready_next (λ m. put_marker true (join m)) mark_end a d p (omega arith) (omega arith) (room_as _ _ _ _ (close-stroke (view a) c.in-NonemptySubpath.is c.if-is_fill.false) c.requires.room);
-      drawn = state-after (λ m. put_marker true (join m)) NonemptySubpath a d p (marked_open true (join (view a)) (join_open (view a) c.in-NonemptySubpath.is));
+      ready = ready_next closing mark_end a d p (omega arith) (omega arith) (room_as _ _ _ _ (close_at NonemptySubpath (view a) c.in-NonemptySubpath.is) c.requires.room);
+      drawn = state-after closing NonemptySubpath a d p (closing_open (view a) c.in-NonemptySubpath.is);
     }
 
 pub close-returns-in-Start : goal.close-returns-in-Start
@@ -62,19 +58,16 @@ close-returns-in-MoveTo t c =
     let a = lent c.args.self.now c.args.tags.now c.args.words.now in
     as_rule drop_move close a _ (sym (close_at MoveTo (view a) c.in-MoveTo.is)) c.drop_move.ensures
 
-pub close-returns-then-is_fill : goal.close-returns-then-is_fill
-close-returns-then-is_fill t c =
+pub close-returns-after-not-self : goal.close-returns-after-not-self
+close-returns-after-not-self t c =
     let a = lent c.args.self.now c.args.tags.now c.args.words.now in
     let b = lent c.join_first.new.self c.join_first.new.tags c.join_first.new.words in
-    as_rule (λ m. mark_end (join m)) close a _ (sym (close-fill (view a) c.in-NonemptySubpath.is c.if-is_fill.true)) (and_then join mark_end a b _ c.join_first.ensures c.mark_end.ensures)
-
-pub close-returns-else-is_fill : goal.close-returns-else-is_fill
-close-returns-else-is_fill t c =
-    let a = lent c.args.self.now c.args.tags.now c.args.words.now in
-    let b = lent c.join_first.new.self c.join_first.new.tags c.join_first.new.words in
-    let d = lent c.insert_marker.new.self c.insert_marker.new.tags c.insert_marker.new.words in
-    as_rule (λ m. mark_end (put_marker true (join m))) close a _ (sym (close-stroke (view a) c.in-NonemptySubpath.is c.if-is_fill.false))
-    (and_then (λ m. put_marker true (join m)) mark_end a d _ (and_then join (put_marker true) a b d c.join_first.ensures c.insert_marker.ensures) c.mark_end-else-is_fill.ensures)
+    let d = lent c.if-not-self.self c.if-not-self.tags c.if-not-self.words in
+    let p : Does closing a d = elim c.if-not-self.branch [
+      | close-then-not-self w ↦ let f : c.join_first.new.self.is_fill ≡ false = cc in rw (w.self-is, w.tags-is, w.words-is) (closing-stroke a b _ c.join_first.ensures f w.insert_marker.ensures)
+      | close-else-not-self w ↦ let f : c.join_first.new.self.is_fill ≡ true = cc in rw (w.self-is, w.tags-is, w.words-is) (closing-fill a b c.join_first.ensures f)
+    ] in
+    as_rule (λ m. mark_end (closing m)) close a _ (sym (close_at NonemptySubpath (view a) c.in-NonemptySubpath.is)) (and_then closing mark_end a d _ p c.mark_end.ensures)
 
 pub insert_marker-line_to-requires : goal.insert_marker-line_to-requires
 insert_marker-line_to-requires t c =
@@ -121,7 +114,7 @@ leave-insert_marker-requires t c =
       search rules,
       (
         record { held = c.requires.held; room = room_mark (put_marker false (view a)) _ _ (room_as _ _ _ _ (leave-at NonemptySubpath (view a) c.if-self.false c.in-NonemptySubpath.is) c.requires.room) },
-        (c.if-self.false, c.in-NonemptySubpath.is),
+        c.in-NonemptySubpath.is,
       ),
     )
 
