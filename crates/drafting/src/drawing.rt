@@ -12,6 +12,8 @@ use std::alloc::{AllocError, Global};
 use values::style::Style;
 use values::transform::Transform;
 
+// Each stream keeps its free entries behind the used ones: the calls are lent it whole, and the Encoding has its length.
+
 /// A plan that was drawn: the answers of its calls, and what it holds now.
 #[derive(Drop)]
 pub struct Drawn {
@@ -84,6 +86,7 @@ fn close(plan: Plan) -> Encoding
 mod tests {
     use super::*;
     use std::test::Fail;
+    use values::error::{EncodeError, Stream};
 
     const ROOM: Room = Room {
         path_tags: 4,
@@ -103,12 +106,12 @@ mod tests {
             Call::Path(true),
         ];
         let drawn = draw(rt.alloc(), &calls, ROOM)?;
-        assert_eq!(rt; drawn.answers.len(), 3);
-        assert!(rt; matches!(drawn.answers[0], Answer::Done));
-        assert!(rt; matches!(drawn.answers[1], Answer::Declined(_)));
-        assert!(rt; matches!(drawn.answers[2], Answer::Done));
-        assert_eq!(rt; drawn.draw_tags.len(), 1);
-        assert_eq!(rt; drawn.draw_tags[0].0, DrawTag::COLOR.0);
+        let full = EncodeError::FullStream(Stream::DrawTags);
+        assert_eq!(rt;
+            drawn.answers.as_slice(),
+            [Answer::Done, Answer::Declined(full), Answer::Done].as_slice()
+        );
+        assert_eq!(rt; drawn.draw_tags.as_slice(), [DrawTag::COLOR].as_slice());
         assert_eq!(rt; drawn.draw_data.as_slice(), [0xff00_00ff].as_slice());
         assert_eq!(rt; drawn.encoding.stream_offsets().draw_tags, 1);
         Ok(())
