@@ -152,19 +152,13 @@ none_left ts a h =
     let e = effect 0 [] ts in
     sym (none_open (clipped ts).pops e.new (open_after 0 [] ts) (e.count ∙ ap (λ x. x.pushes) h) e.left)
 
--- the latest begin open is looked for from the end back
-module _ (ts : List DrawTag) (i : ℕ) (some : 0 < i) (within : i ≤ length ts) (d : DrawTag) where
-  behind : drop (i - 1) ts ≡ get_or ts (i - 1) d ∷ drop i ts
-  behind =
-      let last : i - 1 + 1 ≡ i = omega arith in
-      drop_more ts (i - 1) d (omega arith) ∙ ap (λ n. get_or ts (i - 1) d ∷ drop n ts) last
+-- the latest begin open is looked for from the end back: before the tags behind `left` stands t, after `before`
+module _ (whole left before : List DrawTag) (t : DrawTag) (all : left ++ drop (length left) whole ≡ whole) (last : left ≡ before ++ (t ∷ [])) where
+  parted : whole ≡ before ++ (t ∷ drop (length left) whole)
+  parted = sym all ∙ ap (λ xs. xs ++ drop (length left) whole) last ∙ append_assoc before (t ∷ []) (drop (length left) whole)
 
-  pub found : (get_or ts (i - 1) d).0 ≡ 0x49 → clipped (drop i ts) ≡ still → Some (i - 1) ≡ latest (open_after 0 [] ts)
-  found begins h =
-      let parted : ts ≡ take (i - 1) ts ++ (get_or ts (i - 1) d ∷ drop i ts) = sym (take-append-drop (i - 1) ts) ∙ ap (λ xs. take (i - 1) ts ++ xs) behind in
-      let place : length (take (i - 1) ts) ≡ i - 1 = length-take-le (i - 1) ts (omega arith) in
-      let met = (meeting (take (i - 1) ts) (get_or ts (i - 1) d) (drop i ts) begins).1 h in
-      sym (met ∙ ap Some place) ∙ ap (λ xs. latest (open_after 0 [] xs)) (sym parted)
+  pub found : t.0 ≡ 0x49 → clipped (drop (length left) whole) ≡ still → Some (length before) ≡ latest (open_after 0 [] whole)
+  found begins h = sym ((meeting before t (drop (length left) whole) begins).1 h) ∙ ap (λ xs. latest (open_after 0 [] xs)) (sym parted)
 
 abbrev nop : DrawTag
 nop = record { 0 = 0 }

@@ -82,10 +82,8 @@ fn latest_open(tags: &[DrawTag]) -> Option<usize>
     ensures { result ≡ latest (open_after 0 [] tags.now) }
 {
     let mut ended = 0usize;
-    // By index, as `tags.iter().enumerate().rev()` took 0.86 ms over a million tags, and this 0.52.
-    for i in (0..tags.len()).rev() {
-        let tag = tags[i];
-        match tag {
+    for (i, tag) in tags.iter().enumerate().rev() {
+        match *tag {
             DrawTag::BEGIN_CLIP if ended == 0 => return Some(i),
             DrawTag::BEGIN_CLIP => ended -= 1,
             DrawTag::END_CLIP => ended += 1,
