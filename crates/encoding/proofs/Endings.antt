@@ -1,5 +1,5 @@
 -- A finish, over the sheet. Assumes nothing.
-use Rattle.std.proofs.Common.{◌≡◌, ℕ, ◌+◌, ◌-◌, ◌<◌, ◌≤◌, Bool, true, false, cond, eqb, List, [], ◌∷◌, ◌++◌, length, take, Some, None, Ok, Err, sym, refl, ap, ◌∙◌, arith, length-take, length-take-le, le-ltb, eqb-true}
+use Rattle.std.proofs.Common.{◌≡◌, ℕ, ◌+◌, ◌-◌, ◌<◌, ◌≤◌, min, Bool, true, false, cond, eqb, List, [], ◌∷◌, ◌++◌, length, take, Some, None, Ok, Err, sym, refl, ap, ◌∙◌, arith, length-take, length-take-le, le-ltb, eqb-true}
 use lib.Seq.{take-append-le, take-append-add}
 use borrow.Rule.Slice.PartMut.{put_mid, post_of}
 use Rattle.monoid.specs.declared.path.PathTag.{PathTag}
@@ -61,12 +61,18 @@ take_behind a k n xs ys h l =
 long_enough : {X : Type 0} (n : ℕ) (xs ys : List X) → take n xs ≡ ys → n ≡ length ys → n ≤ length xs
 long_enough n xs ys e h = let k = simp length-take at (ap length e) in omega arith
 
-module _ (e : Encoding) (o : OpenPath) (ts : List PathTag) (ws : List ℕ) (z y : ℕ) (m : Streams) (l : Lending e o ts ws z y) (mark : Bool) where
+module _ (e : Encoding) (o : OpenPath) (ts : List PathTag) (ws : List ℕ) (m : Streams) (l : Lending e o ts ws) (mark : Bool) where
   abbrev b : ℕ
   b = e.path_tags
 
   abbrev d : ℕ
   d = e.path_data
+
+  abbrev z : ℕ
+  z = min (length ts) max_others
+
+  abbrev y : ℕ
+  y = min (length ws) max_words
 
   abbrev was : Streams
   was = with_paths m ts ws
@@ -78,16 +84,16 @@ module _ (e : Encoding) (o : OpenPath) (ts : List PathTag) (ws : List ℕ) (z y 
   s = open_sheet e o was
 
   abbrev lended : Lent
-  lended = part e o ts ws z y m l
+  lended = part e o ts ws m l
 
   abbrev rule : Rule ℕ
   rule = finish_rule mark
 
   same : view lended ≡ own
-  same = same-path e o ts ws z y m l
+  same = same-path e o ts ws m l
 
   used : used_by (view lended) ≡ in_use o
-  used = own-used lended (part_held e o ts ws z y m l)
+  used = own-used lended (part_held e o ts ws m l)
 
   -- nothing is counted, and nothing declined
   none-declined : counted own ≡ 0 → declined (Finish mark) lended ≡ None
@@ -97,7 +103,7 @@ module _ (e : Encoding) (o : OpenPath) (ts : List PathTag) (ws : List ℕ) (z y 
       let some : v.state ≡ NonemptySubpath → 0 < length v.own.tags = λ h. let k = tag_held o h in omega (arith, ap (λ (u : Used). u.tags) used) in
       let words = left-words v v.state v.fill refl refl some none₂ in
       let tags : length (finish mark v).own.tags ≡ 0 = ap length (finished-none mark (leave v).own.tags none₂) ∙ none₂ in
-      let held = part_held e o ts ws z y m l in
+      let held = part_held e o ts ws m l in
       let few : length (finish mark v).own.words ≤ length lended.words = omega (arith, words, ap (λ (u : Used). u.words) used, held.words) in
       let here : lacks (in_use o) (length lended.tags) (length lended.words) ≡ None =
       simp (le-ltb (length lended.tags) o.tags held.tags, le-ltb (length lended.words) o.words held.words) in
@@ -116,10 +122,10 @@ module _ (e : Encoding) (o : OpenPath) (ts : List PathTag) (ws : List ℕ) (z y 
       ∙ fits-still ∙ ap as_error (sym (none-declined (eqb-true (counted own) 0 h)))
   why-by false h =
       ap (λ q. full (rooms rule.on (cond q (with_open None s) (with_open None (with_outlines (added s.tags (finish mark own).own.tags) (outlined mark own s.outlines) s))) was)) h
-      ∙ no-space e o ts ws z y m l (Finish mark) (used_by (finish mark own)) refl
+      ∙ no-space e o ts ws m l (Finish mark) (used_by (finish mark own)) refl
 
   why : reason rule s was ≡ as_error (declined (Finish mark) lended)
-  why = λ i. or_else (no_short e o ts ws z y m l i) (why-by (eqb (counted own) 0) refl i)
+  why = λ i. or_else (no_short e o ts ws m l i) (why-by (eqb (counted own) 0) refl i)
 
   module _ (tp : List PathTag) (wp : List ℕ) where
     abbrev left : Streams
@@ -131,7 +137,7 @@ module _ (e : Encoding) (o : OpenPath) (ts : List PathTag) (ws : List ℕ) (z y 
         let is : reason rule s was ≡ Some (error_of x) = why ∙ ap as_error h in
         record {
           says = ap (λ w. told w (rule.answer s)) (sym is);
-          leaves = unchanged e o ts ws z y m l o' tp wp back ∙ ap (λ w. left_by w s (rule.next s)) (sym is);
+          leaves = unchanged e o ts ws m l o' tp wp back ∙ ap (λ w. left_by w s (rule.next s)) (sym is);
         }
 
     module _ (f : Finished) (done : Done mark lended f tp wp) where
@@ -176,7 +182,7 @@ module _ (e : Encoding) (o : OpenPath) (ts : List PathTag) (ws : List ℕ) (z y 
       taken_in e' n is shows =
           let fs : f.segments ≡ counted own = ap (λ (g : Finished). g.segments) is-finished in
           let ok : reason rule s was ≡ None = why ∙ ap as_error done.accepted in
-          let next : sheet e' left ≡ rule.next s = shows ∙ λ i. cond (eqb (fs i) 0) (same-sheet e o ts ws z y m l o tp wp i) (joined_is i) in
+          let next : sheet e' left ≡ rule.next s = shows ∙ λ i. cond (eqb (fs i) 0) (same-sheet e o ts ws m l o tp wp i) (joined_is i) in
           record {
             says = ap Ok (is ∙ fs) ∙ ap (λ w. told w (rule.answer s)) (sym ok);
             leaves = next ∙ ap (λ w. left_by w s (rule.next s)) (sym ok);

@@ -1,5 +1,5 @@
 -- A call on an open path, over the sheet. Assumes nothing.
-use Rattle.std.proofs.Common.{◌≡◌, ℕ, ◌+◌, ◌-◌, ◌≤◌, min, Bool, true, false, cond, ◌||◌, ltb, List, [], ◌∷◌, length, Some, None, Option, Result, sym, refl, ap, ◌∙◌, subst, arith, le-ltb}
+use Rattle.std.proofs.Common.{◌≡◌, ℕ, ◌+◌, ◌-◌, ◌≤◌, min, Bool, true, false, cond, ◌||◌, ltb, List, [], ◌∷◌, length, Some, None, Ok, Err, Option, Result, sym, refl, ap, ◌∙◌, subst, arith, le-ltb}
 use borrow.Rule.Slice.PartMut.{put_mid}
 use Rattle.std.specs.List.{between}
 use Rattle.monoid.specs.declared.path.PathTag.{PathTag}
@@ -29,13 +29,18 @@ use Rattle.encoding.specs.Sheet.{Streams, sheet, with_paths, with_open}
 use Rattle.encoding.specs.Promises.{Rule, Answered, reason, left_by, own_path, open_sheet}
 use Rattle.encoding.specs.Rules.{Nothing}
 use Rattle.encoding.specs.Paths.{whole, step_rule}
-use Rattle.encoding.specs.Inner.{relayed, error_of, tags_used, words_used}
+use Rattle.encoding.specs.Inner.{error_of, tags_used, words_used}
 use Rattle.encoding.proofs.Parts.{length_part, take_part, part-after, part-before, passes}
 
 -- the refusal that an open path's own stands for
 abbrev pub as_error : Option Declined → Option EncodeError
 as_error None = None
 as_error (Some d) = Some (error_of d)
+
+-- the answer that its own stands for
+abbrev pub relayed : Result Nothing Declined → Result Nothing EncodeError
+relayed (Ok x) = Ok x
+relayed (Err d) = Err (error_of d)
 
 pub told-relayed : (o : Option Declined) → relayed (said o) ≡ told (as_error o) tt
 told-relayed None = refl
@@ -46,31 +51,29 @@ both_full true t = refl
 both_full false true = refl
 both_full false false = refl
 
--- an open path's two streams, each lent from the path's start to an end that neither passes the stream nor its maximum
-pub record Lending (e : Encoding) (o : OpenPath) (ts : List PathTag) (ws : List ℕ) (z y : ℕ) : Type 0 where
+-- the two streams have what is used of them, and so little
+pub record Lending (e : Encoding) (o : OpenPath) (ts : List PathTag) (ws : List ℕ) : Type 0 where
   pub tags_held : e.path_tags + o.tags ≤ length ts
   pub words_held : e.path_data + o.words ≤ length ws
   pub few_tags : e.path_tags + o.tags ≤ max_others
   pub few_words : e.path_data + o.words ≤ max_words
-  pub tags_end : z ≡ min (length ts) max_others
-  pub words_end : y ≡ min (length ws) max_words
 
-pub lending : (p : PathEncoder) (ts : List PathTag) (ws : List ℕ) (z y : ℕ) → (tags_used p ≤ length ts) × (words_used p ≤ length ws) → z ≡ min (length ts) max_others → y ≡ min (length ws) max_words → Lending p.encoding p.path ts ws z y
-lending p ts ws z y held tags_end words_end = record {
-  tags_held = held.0;
-  words_held = held.1;
-  few_tags = p.few_tags;
-  few_words = p.few_words;
-  tags_end = tags_end;
-  words_end = words_end;
-}
+pub lending : (p : PathEncoder) (ts : List PathTag) (ws : List ℕ) → (tags_used p ≤ length ts) × (words_used p ≤ length ws) → Lending p.encoding p.path ts ws
+lending p ts ws held = record { tags_held = held.0; words_held = held.1; few_tags = p.few_tags; few_words = p.few_words }
 
-module _ (e : Encoding) (o : OpenPath) (ts : List PathTag) (ws : List ℕ) (z y : ℕ) (m : Streams) (l : Lending e o ts ws z y) where
+module _ (e : Encoding) (o : OpenPath) (ts : List PathTag) (ws : List ℕ) (m : Streams) (l : Lending e o ts ws) where
   abbrev b : ℕ
   b = e.path_tags
 
   abbrev d : ℕ
   d = e.path_data
+
+  -- the ends of the parts that the path is lent
+  abbrev z : ℕ
+  z = min (length ts) max_others
+
+  abbrev y : ℕ
+  y = min (length ws) max_words
 
   abbrev pub part : Lent
   part = lent o (between b z ts) (between d y ws)
@@ -105,8 +108,8 @@ module _ (e : Encoding) (o : OpenPath) (ts : List PathTag) (ws : List ℕ) (z y 
   pub no-space : (c : Call) (u : Used) → u ≡ used_by (call c (own_path e o was)) →
       full (room PathTags (b + u.tags) (length ts) ∷ room PathData (d + u.words) (length ws) ∷ []) ≡ as_error (declined c part)
   no-space c u is =
-      let p : ltb (z - b) u.tags ≡ (ltb (length ts) (b + u.tags) || ltb max_others (b + u.tags)) = passes b u.tags (length ts) max_others z l.tags_end (omega arith) in
-      let q : ltb (y - d) u.words ≡ (ltb (length ws) (d + u.words) || ltb max_words (d + u.words)) = passes d u.words (length ws) max_words y l.words_end (omega arith) in
+      let p : ltb (z - b) u.tags ≡ (ltb (length ts) (b + u.tags) || ltb max_others (b + u.tags)) = passes b u.tags (length ts) max_others z refl (omega arith) in
+      let q : ltb (y - d) u.words ≡ (ltb (length ws) (d + u.words) || ltb max_words (d + u.words)) = passes d u.words (length ws) max_words y refl (omega arith) in
       let here : lacks (in_use o) (length (between b z ts)) (length (between d y ws)) ≡ None =
       simp (le-ltb (length (between b z ts)) o.tags part_held.tags, le-ltb (length (between d y ws)) o.words part_held.words) in
       let used : used_by (call c (view part)) ≡ u = ap (λ v. used_by (call c v)) same-path ∙ sym is in

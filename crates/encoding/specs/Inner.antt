@@ -1,5 +1,6 @@
 -- What functions inside the crate promise one another. Assumes nothing.
-use Rattle.std.specs.Prelude.{◌≡◌, ℕ, ◌+◌, ◌<◌, ◌≤◌, Bool, false, cond, List, [], ◌∷◌, Ok, Err, Option, Result}
+use Rattle.std.specs.Prelude.{◌≡◌, ℕ, ◌+◌, ◌<◌, ◌≤◌, min, Bool, false, cond, List, [], ◌∷◌, Ok, Err, Option, Result}
+use Rattle.std.specs.declared.ops.Range.{Range}
 use Rattle.path.specs.declared.state.Declined.{Declined}
 use Rattle.path.specs.declared.state.Declined.TheVariants.{Short, Full}
 use Rattle.path.specs.declared.state.Finished.{Finished}
@@ -21,11 +22,6 @@ use Rattle.encoding.specs.declared.encoding.Written.{Written}
 use Rattle.encoding.specs.Sheet.{Streams, Sheet, Used, Settings, first, settings, sheet, with_outlines}
 use Rattle.encoding.specs.Promises.{left_by}
 use Rattle.encoding.specs.Rules.{Nothing, added, set_to, error_in}
-
--- what is known once a check of two streams has not declined
-abbrev pub Passed : Result Nothing EncodeError → Type 0 → Type 0 → Type 0
-Passed (Ok v) P Q = P × Q
-Passed (Err e) P Q = Unit {0}
 
 -- the path tags, and the transforms or the styles
 pub record Place (X : Type 0) : Type 0 where
@@ -73,6 +69,13 @@ tags_used p = p.encoding.path_tags + p.path.tags
 abbrev pub words_used : PathEncoder → ℕ
 words_used p = p.encoding.path_data + p.path.words
 
+-- the part of each stream that a path is lent, from its start to the stream's end or its maximum
+abbrev pub lent_parts : PathEncoder → ℕ → ℕ → Range ℕ × Range ℕ
+lent_parts p tags_space words_space = (
+  record { start = p.encoding.path_tags; end = min tags_space (max_entries PathTags) },
+  record { start = p.encoding.path_data; end = min words_space (max_entries PathData) },
+)
+
 -- the open path tells its two streams, and why it declines, by names of its own
 
 abbrev pub stream_of : Own.Stream → Stream
@@ -82,10 +85,6 @@ stream_of Of.PathData = PathData
 abbrev pub error_of : Declined → EncodeError
 error_of (Short x) = ShortStream (stream_of x)
 error_of (Full x) = FullStream (stream_of x)
-
-abbrev pub relayed : Result Nothing Declined → Result Nothing EncodeError
-relayed (Ok x) = Ok x
-relayed (Err d) = Err (error_of d)
 
 -- a finished path fits behind the Encoding's entries, with a tag for each segment and for itself
 pub record FitsBehind (e : Encoding) (f : Finished) (mark : Bool) : Type 0 where

@@ -1,53 +1,53 @@
 // The calls that draw on an open path.
-ghost use Rattle.std.specs.Prelude.{◌≡◌, ◌≤◌, [], ◌∷◌, length};
+ghost use Rattle.std.specs.Prelude.{◌≡◌, ◌≤◌, true, [], ◌∷◌, length, Some, OnOk, IfOk, IfErr};
 ghost use Rattle.values.specs.declared.error.Stream.TheVariants as Of;
 ghost use Rattle.values.specs.declared.error.EncodeError.TheVariants as Error;
 ghost use Rattle.values.specs.Streams.{room};
-ghost use Rattle.values.specs.Errors.{short, unless, or_else, told};
+ghost use Rattle.values.specs.Errors.{short, unless, or_else};
 ghost use Rattle.encoding.specs.Promises.{OnPath};
 ghost use Rattle.encoding.specs.Paths.{step_rule, move_rule, line_rule, quad_rule, cubic_rule, close_rule};
-ghost use Rattle.encoding.specs.Inner.{Passed, tags_used, words_used};
+ghost use Rattle.encoding.specs.Inner.{lent_parts, tags_used, words_used};
 
 use crate::path_encoder::PathEncoder;
-use crate::path_encoder::relay::relay;
+use crate::path_encoder::relay::error_of;
 use crate::streams::{held, room};
 use geometry::curves::{Cubic, Line, Quad, point_of};
 use geometry::numbers::all_finite;
 use monoid::path::PathTag;
 use path::open_path::{Close, Move, PathStep};
+use std::ops::Range;
 use values::error::{EncodeError, Stream};
 
 impl PathEncoder {
-    // Declines for a stream that is shorter than its used length, and then for numbers that are not finite.
+    // Declines for a stream that is shorter than its used length, and then for numbers that are not finite. Else
+    // tells the part of each stream that begins with the path and does not pass the maximum.
     pub(super) fn admit(
         &self,
         path_tags: &[PathTag],
         path_data: &[u32],
         is_finite: bool,
-    ) -> Result<(), EncodeError>
-        ensures says { result ≡ told (or_else (short (room Of.PathTags (tags_used self.now) (length path_tags.now) ∷ room Of.PathData (words_used self.now) (length path_data.now) ∷ [])) (unless is_finite Error.NotFinite)) tt }
-        ensures passed { Passed result (tags_used self.now ≤ length path_tags.now) (words_used self.now ≤ length path_data.now) }
+    ) -> Result<(Range<usize>, Range<usize>), EncodeError>
+        ensures finite { OnOk result (is_finite ≡ true) }
+        ensures held { OnOk result ((tags_used self.now ≤ length path_tags.now) × (words_used self.now ≤ length path_data.now)) }
+        ensures parts { IfOk result (λ parts. parts ≡ lent_parts self.now (length path_tags.now) (length path_data.now)) }
+        ensures declined { IfErr result (λ e. or_else (short (room Of.PathTags (tags_used self.now) (length path_tags.now) ∷ room Of.PathData (words_used self.now) (length path_data.now) ∷ [])) (unless is_finite Error.NotFinite) ≡ Some e) }
     {
+        let tags = self.encoding.path_tags;
+        let words = self.encoding.path_data;
         let used = self.path.used();
         held(
-            room(
-                Stream::PathTags,
-                self.encoding.path_tags + used.tags,
-                path_tags,
-            ),
-            room(
-                Stream::PathData,
-                self.encoding.path_data + used.words,
-                path_data,
-            ),
+            room(Stream::PathTags, tags + used.tags, path_tags),
+            room(Stream::PathData, words + used.words, path_data),
         )?;
         if !is_finite {
             return Err(EncodeError::NotFinite);
         }
-        Ok(())
+        let tags_end = path_tags.len().min(Stream::PathTags.max_entries());
+        let words_end = path_data.len().min(Stream::PathData.max_entries());
+        Ok((tags..tags_end, words..words_end))
     }
 
-    // Takes a step, on the part of each stream that begins with the path and does not pass the maximum.
+    // Takes a step.
     fn take<S: PathStep>(
         &mut self,
         path_tags: &mut [PathTag],
@@ -57,17 +57,10 @@ impl PathEncoder {
     ) -> Result<(), EncodeError>
         ensures { OnPath (step_rule is_finite (S.step step)) self.old path_tags.old path_data.old result self.new path_tags.new path_data.new }
     {
-        self.admit(path_tags, path_data, is_finite)?;
-        let tags = self.encoding.path_tags;
-        let words = self.encoding.path_data;
-        let tags_end = path_tags.len().min(Stream::PathTags.max_entries());
-        let words_end = path_data.len().min(Stream::PathData.max_entries());
-        let answer = self.path.try_take(
-            &mut path_tags[tags..tags_end],
-            &mut path_data[words..words_end],
-            step,
-        );
-        relay(answer)
+        let (tags, words) = self.admit(path_tags, path_data, is_finite)?;
+        self.path
+            .try_take(&mut path_tags[tags], &mut path_data[words], step)
+            .map_err(error_of)
     }
 
     /// Begins another subpath.

@@ -10,7 +10,7 @@ use crate::path_encoder::PathEncoder;
 use crate::path_encoder::relay::error_of;
 use monoid::path::PathTag;
 use path::state::Finished;
-use values::error::{EncodeError, Stream};
+use values::error::EncodeError;
 
 // The Encoding with a finished path's entries in use, if any segment was counted, and the count.
 fn join(mut encoding: Encoding, finished: Finished, insert_path_marker: bool) -> (Encoding, u32)
@@ -40,24 +40,18 @@ impl PathEncoder {
     ) -> Result<(Encoding, u32), (EncodeError, PathEncoder)>
         ensures { OnFinish (finish_rule insert_path_marker) self path_tags.old path_data.old result path_tags.new path_data.new }
     {
-        if let Err(error) = self.admit(path_tags, path_data, true) {
-            return Err((error, self));
-        }
+        let (tags, words) = match self.admit(path_tags, path_data, true) {
+            Ok(parts) => parts,
+            Err(error) => return Err((error, self)),
+        };
         let PathEncoder { encoding, path } = self;
-        let tags = encoding.path_tags;
-        let words = encoding.path_data;
-        let tags_end = path_tags.len().min(Stream::PathTags.max_entries());
-        let words_end = path_data.len().min(Stream::PathData.max_entries());
         match path.try_finish(
-            &mut path_tags[tags..tags_end],
-            &mut path_data[words..words_end],
+            &mut path_tags[tags],
+            &mut path_data[words],
             insert_path_marker,
         ) {
             Ok(finished) => Ok(join(encoding, finished, insert_path_marker)),
-            Err(refused) => {
-                let (path, declined) = refused;
-                Err((error_of(declined), PathEncoder { encoding, path }))
-            }
+            Err((path, declined)) => Err((error_of(declined), PathEncoder { encoding, path })),
         }
     }
 }

@@ -1,10 +1,11 @@
-// What an open path answers, told as the Encoding does.
+// Why an open path declines, told as the Encoding does.
 ghost use Rattle.std.specs.Prelude.{◌≡◌};
-ghost use Rattle.encoding.specs.Inner.{stream_of, error_of, relayed};
+ghost use Rattle.encoding.specs.Inner.{stream_of, error_of};
 
 use path::state::{Declined, Stream as OwnStream};
 use values::error::{EncodeError, Stream};
 
+// Functions and no `From`, as the types are of other crates.
 fn stream_of(stream: OwnStream) -> Stream
     ensures { result ≡ stream_of stream }
 {
@@ -21,15 +22,5 @@ pub(super) fn error_of(declined: Declined) -> EncodeError
     match declined {
         Declined::Short(stream) => EncodeError::ShortStream(stream_of(stream)),
         Declined::Full(stream) => EncodeError::FullStream(stream_of(stream)),
-    }
-}
-
-// The whole answer.
-pub(super) fn relay(answer: Result<(), Declined>) -> Result<(), EncodeError>
-    ensures { result ≡ relayed answer }
-{
-    match answer {
-        Ok(()) => Ok(()),
-        Err(declined) => Err(error_of(declined)),
     }
 }
