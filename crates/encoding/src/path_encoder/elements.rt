@@ -33,14 +33,13 @@ impl PathEncoder {
 
 // Draws the elements and finishes the path, which is given up where a step is declined.
 fn draw_elements(
-    path: PathEncoder,
+    mut path: PathEncoder,
     path_tags: &mut [PathTag],
     path_data: &mut [u32],
     elements: &[PathEl],
 ) -> Result<(Encoding, u32), (ElementError, Encoding)>
     ensures { OnElements elements.now path path_tags.old path_data.old result path_tags.new path_data.new }
 {
-    let mut path = path;
     for (index, element) in elements.iter().enumerate() {
         if let Err(error) = path.encode_element(path_tags, path_data, *element) {
             return Err((ElementError { error, index }, path.abandon()));
@@ -49,10 +48,7 @@ fn draw_elements(
     let index = elements.len();
     match path.finish(path_tags, path_data, true) {
         Ok(done) => Ok(done),
-        Err(refused) => {
-            let (error, path) = refused;
-            Err((ElementError { error, index }, path.abandon()))
-        }
+        Err((error, path)) => Err((ElementError { error, index }, path.abandon())),
     }
 }
 
@@ -70,13 +66,11 @@ impl Encoding {
         let encoding = replace(self, Encoding::new());
         let path = encoding.encode_path(is_fill);
         match draw_elements(path, path_tags, path_data, elements) {
-            Ok(done) => {
-                let (encoding, count) = done;
+            Ok((encoding, count)) => {
                 *self = encoding;
                 Ok(count != 0)
             }
-            Err(refused) => {
-                let (error, encoding) = refused;
+            Err((error, encoding)) => {
                 *self = encoding;
                 Err(error)
             }

@@ -21,7 +21,7 @@ returns-in-Ok-try_finish c = λ m.
     let l = lending p ts ws c.in-Ok.ensures.held in
     rw c.in-Ok.ensures.parts
     (taken_in p.encoding p.path ts ws m l c.args.insert_path_marker c.try_finish.new.tags c.try_finish.new.words c.in-Ok-try_finish.finished
-      (rw c.in-Ok.ensures.parts at c.in-Ok-try_finish.ensures) c.join.result.0 c.join.result.1 c.join.ensures.count (c.join.ensures.sheet _))
+    (rw c.in-Ok.ensures.parts at c.in-Ok-try_finish.ensures) c.join.result.0 c.join.result.1 c.join.ensures.count (c.join.ensures.sheet _))
 
 pub returns-in-Err-try_finish : goal.returns-in-Err-try_finish
 returns-in-Err-try_finish c = λ m.
