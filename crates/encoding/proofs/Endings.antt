@@ -1,6 +1,7 @@
 -- A finish, over the sheet. Assumes nothing.
 use Rattle.std.proofs.Common.{◌≡◌, ℕ, ◌+◌, ◌-◌, ◌<◌, ◌≤◌, min, Bool, true, false, cond, eqb, List, [], ◌∷◌, ◌++◌, length, take, Some, None, Ok, Err, sym, refl, ap, ◌∙◌, arith, length-take, length-take-le, le-ltb, eqb-true}
 use lib.Seq.{take-append-le, take-append-add}
+use Rattle.std.proofs.lemmas.List.Edits.{length-between}
 use borrow.Rule.Slice.PartMut.{put_mid, post_of}
 use Rattle.monoid.specs.declared.path.PathTag.{PathTag}
 use Rattle.path.specs.declared.open_path.OpenPath.{OpenPath}
@@ -29,7 +30,6 @@ use Rattle.encoding.specs.Promises.{Rule, Answered, reason, rooms, left_by, own_
 use Rattle.encoding.specs.Rules.{added}
 use Rattle.encoding.specs.Paths.{counted, outlined, finish_rule}
 use Rattle.encoding.specs.Inner.{error_of, joined, FitsBehind}
-use Rattle.encoding.proofs.Parts.{length_part}
 use Rattle.encoding.proofs.OpenPaths.{Lending, as_error, part, part_held, same-path, no_short, no-space, same-sheet, unchanged}
 
 -- a path that is left keeps its tags, and without one it has no more words than it had
@@ -148,8 +148,8 @@ module _ (e : Encoding) (o : OpenPath) (ts : List PathTag) (ws : List ℕ) (m : 
       pub fits-behind : FitsBehind e f mark
       fits-behind =
           let r = (ready_accepted (Finish mark) lended done.accepted).room in
-          let tags = length_part b z ts (omega arith) (omega arith) in
-          let words = length_part d y ws (omega arith) (omega arith) in
+          let tags = length-between ts b z (omega arith) in
+          let words = length-between ws d y (omega arith) in
           let ft = ap (λ (g : Finished). g.used.tags) done.says in
           let fw = ap (λ (g : Finished). g.used.words) done.says in
           let fs = ap (λ (g : Finished). g.segments) done.says in

@@ -1,6 +1,5 @@
 -- Lemmas.
 pub mod Entries
-pub mod Reasons
 pub mod Settings
 pub mod Parts
 pub mod OpenPaths

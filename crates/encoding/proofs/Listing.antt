@@ -38,7 +38,7 @@ by_answer : {V : Type 0} (o : Option EncodeError) (v w : V) → Ok w ≡ told o 
 by_answer None v w h = (refl, cc)
 by_answer (Some e) v w h = let z : ◌≡◌ {A = ℕ} 0 1 = cc in absurd (omega arith)
 
-by_refusal : {V : Type 0} (o : Option EncodeError) (v : V) (e : EncodeError) → Err e ≡ told o v → o ≡ Some e
+pub by_refusal : {V : Type 0} (o : Option EncodeError) (v : V) (e : EncodeError) → Err e ≡ told o v → o ≡ Some e
 by_refusal None v e h = let z : ◌≡◌ {A = ℕ} 0 1 = cc in absurd (omega arith)
 by_refusal (Some x) v e h = cc
 

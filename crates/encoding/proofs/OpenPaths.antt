@@ -1,5 +1,7 @@
 -- A call on an open path, over the sheet. Assumes nothing.
 use Rattle.std.proofs.Common.{◌≡◌, ℕ, ◌+◌, ◌-◌, ◌≤◌, min, Bool, true, false, cond, ◌||◌, ltb, List, [], ◌∷◌, length, Some, None, Ok, Err, Option, Result, sym, refl, ap, ◌∙◌, subst, arith, le-ltb}
+use Rattle.std.proofs.lemmas.List.Edits.{length-between}
+use Rattle.std.proofs.lemmas.Slice.{take-put_mid_below}
 use borrow.Rule.Slice.PartMut.{put_mid}
 use Rattle.std.specs.List.{between}
 use Rattle.monoid.specs.declared.path.PathTag.{PathTag}
@@ -30,7 +32,7 @@ use Rattle.encoding.specs.Promises.{Rule, Answered, reason, left_by, own_path, o
 use Rattle.encoding.specs.Rules.{Nothing}
 use Rattle.encoding.specs.Paths.{whole, step_rule}
 use Rattle.encoding.specs.Inner.{error_of, tags_used, words_used}
-use Rattle.encoding.proofs.Parts.{length_part, take_part, part-after, part-before, passes}
+use Rattle.encoding.proofs.Parts.{take_part, part-after, passes}
 
 -- the refusal that an open path's own stands for
 abbrev pub as_error : Option Declined → Option EncodeError
@@ -82,10 +84,10 @@ module _ (e : Encoding) (o : OpenPath) (ts : List PathTag) (ws : List ℕ) (m : 
   was = with_paths m ts ws
 
   length-tags : length (between b z ts) ≡ z - b
-  length-tags = length_part b z ts (omega arith) (omega arith)
+  length-tags = length-between ts b z (omega arith)
 
   length-words : length (between d y ws) ≡ y - d
-  length-words = length_part d y ws (omega arith) (omega arith)
+  length-words = length-between ws d y (omega arith)
 
   pub part_held : Held part
   part_held = record { tags = omega (arith, length-tags); words = omega (arith, length-words) }
@@ -127,8 +129,8 @@ module _ (e : Encoding) (o : OpenPath) (ts : List PathTag) (ws : List ℕ) (m : 
     -- what is used up to the path is as it was
     pub same-sheet : sheet e left ≡ sheet e was
     same-sheet = λ i. record {
-      tags = record { count = b; entries = part-before b (z - b) ts tp (omega arith) i };
-      outlines = record { words = record { count = d; entries = part-before d (y - d) ws wp (omega arith) i }; paths = e.n_paths; segments = e.n_path_segments };
+      tags = record { count = b; entries = take-put_mid_below b (z - b) ts tp b (omega arith) (omega arith) i };
+      outlines = record { words = record { count = d; entries = take-put_mid_below d (y - d) ws wp d (omega arith) (omega arith) i }; paths = e.n_paths; segments = e.n_path_segments };
       transforms = (sheet e was).transforms;
       styles = (sheet e was).styles;
       drawn = (sheet e was).drawn;

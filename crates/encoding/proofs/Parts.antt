@@ -1,14 +1,10 @@
 -- The part of a stream that an open path is lent. Assumes nothing.
-use Rattle.std.proofs.Common.{◌≡◌, ℕ, ◌+◌, ◌-◌, ◌≤◌, min, Bool, true, false, ◌||◌, ltb, List, ◌++◌, length, take, drop, refl, ap, ◌∙◌, arith, length-drop, length-take-le, take-take, drop_at, ltb-false, ltb-true, le-ltb, lt-ltb}
+use Rattle.std.proofs.Common.{◌≡◌, ℕ, ◌+◌, ◌-◌, ◌≤◌, min, Bool, true, false, ◌||◌, ltb, List, ◌++◌, length, take, drop, refl, ap, ◌∙◌, arith, length-take-le, take-take, drop_at, ltb-false, ltb-true, le-ltb, lt-ltb}
 use lib.Seq.{take-append-le}
 use borrow.Rule.Slice.PartMut.{put_mid, post_of}
 use Rattle.std.specs.List.{between}
-use Rattle.std.proofs.lemmas.Slice.{take-put_mid_below}
 
 module _ {X : Type 0} where
-  pub length_part : (a z : ℕ) (xs : List X) → a ≤ z → z ≤ length xs → length (between a z xs) ≡ z - a
-  length_part a z xs h k = length-take-le (z - a) (drop a xs) (simp length-drop (omega arith))
-
   -- its first entries are those from its start on
   pub take_part : (n a z : ℕ) (xs : List X) → a + n ≤ z → take n (between a z xs) ≡ take n (drop a xs)
   take_part n a z xs h = take-take n (z - a) (drop a xs) (omega arith)
@@ -17,10 +13,6 @@ module _ {X : Type 0} where
   pub part-after : (n a k : ℕ) (xs ys : List X) → a ≤ length xs → n ≤ length ys → take n (drop a (put_mid a k xs ys)) ≡ take n ys
   part-after n a k xs ys h l =
       ap (take n) (drop_at (take a xs) (ys ++ post_of a k xs) a (length-take-le a xs h)) ∙ take-append-le n ys (post_of a k xs) l
-
-  -- and what stands before is as it was
-  pub part-before : (a k : ℕ) (xs ys : List X) → a ≤ length xs → take a (put_mid a k xs ys) ≡ take a xs
-  part-before a k xs ys h = take-put_mid_below a k xs ys a (omega arith) h
 
 either : (s t : Bool) (b n l most z : ℕ) → ltb l (b + n) ≡ s → ltb most (b + n) ≡ t → z ≡ min l most → b ≤ z → ltb (z - b) n ≡ (s || t)
 either true t b n l most z p q e h = let lt = ltb-true l (b + n) p in lt-ltb (z - b) n (omega arith)

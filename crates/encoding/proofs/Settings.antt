@@ -12,8 +12,8 @@ use Rattle.encoding.specs.Tags.{transform_tag, style_tag}
 use Rattle.encoding.specs.Sheet.{Sheet, Streams, sheet, with_transform, with_style}
 use Rattle.encoding.specs.Promises.{Answered, rooms, reason, left_by}
 use Rattle.encoding.specs.Rules.{transform_rule, new_transform, style_rule, set_style, new_style, error_in}
-use Rattle.encoding.proofs.Reasons.{told-some}
-use Rattle.encoding.specs.Inner.{Place, SetAs, set_at, set_by, set_reason, is_due}
+use Rattle.encoding.proofs.Listing.{by_refusal}
+use Rattle.encoding.specs.Inner.{Place, SetAs, set_at, set_by, set_reason}
 
 through : {A B : Type 0} (f : A → B) (b : Bool) (x y : A) → f (cond b x y) ≡ cond b (f x) (f y)
 through f true x y = refl
@@ -99,7 +99,7 @@ module _ (made : Result Style EncodeError) (e : Encoding) (m : Streams) where
   pub style_declined : {V : Type 0} (v : V) (d : EncodeError) (p : Place Style) → SetAs same_style Styles style_tag (length m.path_tags) (length m.styles) made here₂ (Err d) p → Answered (style_rule v made) s₂ m (Err d) (put₂ p)
   style_declined v d p a =
       let w = set_reason same_style Styles style_tag (length m.path_tags) (length m.styles) made here₂ in
-      let why : w ≡ Some d = told-some w d _ (a.says) in
+      let why : w ≡ Some d = by_refusal w _ d a.says in
       let is : reason (style_rule v made) s₂ m ≡ Some d = sym (style_reason v) ∙ why in
       record {
         says = ap (λ o. told o v) (sym is);

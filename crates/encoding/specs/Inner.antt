@@ -70,11 +70,12 @@ abbrev pub words_used : PathEncoder → ℕ
 words_used p = p.encoding.path_data + p.path.words
 
 -- the part of each stream that a path is lent, from its start to the stream's end or its maximum
-abbrev pub lent_parts : PathEncoder → ℕ → ℕ → Range ℕ × Range ℕ
-lent_parts p tags_space words_space = (
-  record { start = p.encoding.path_tags; end = min tags_space (max_entries PathTags) },
-  record { start = p.encoding.path_data; end = min words_space (max_entries PathData) },
-)
+
+abbrev pub lent_tags : PathEncoder → ℕ → Range ℕ
+lent_tags p space = record { start = p.encoding.path_tags; end = min space (max_entries PathTags) }
+
+abbrev pub lent_words : PathEncoder → ℕ → Range ℕ
+lent_words p space = record { start = p.encoding.path_data; end = min space (max_entries PathData) }
 
 -- the open path tells its two streams, and why it declines, by names of its own
 

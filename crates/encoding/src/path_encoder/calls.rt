@@ -6,7 +6,7 @@ ghost use Rattle.values.specs.Streams.{room};
 ghost use Rattle.values.specs.Errors.{short, unless, or_else};
 ghost use Rattle.encoding.specs.Promises.{OnPath};
 ghost use Rattle.encoding.specs.Paths.{step_rule, move_rule, line_rule, quad_rule, cubic_rule, close_rule};
-ghost use Rattle.encoding.specs.Inner.{lent_parts, tags_used, words_used};
+ghost use Rattle.encoding.specs.Inner.{lent_tags, lent_words, tags_used, words_used};
 
 use crate::path_encoder::PathEncoder;
 use crate::path_encoder::relay::error_of;
@@ -29,7 +29,7 @@ impl PathEncoder {
     ) -> Result<(Range<usize>, Range<usize>), EncodeError>
         ensures finite { OnOk result (is_finite ≡ true) }
         ensures held { OnOk result ((tags_used self.now ≤ length path_tags.now) × (words_used self.now ≤ length path_data.now)) }
-        ensures parts { IfOk result (λ parts. parts ≡ lent_parts self.now (length path_tags.now) (length path_data.now)) }
+        ensures lent { IfOk result (λ parts. (parts.0 ≡ lent_tags self.now (length path_tags.now)) × (parts.1 ≡ lent_words self.now (length path_data.now))) }
         ensures declined { IfErr result (λ e. or_else (short (room Of.PathTags (tags_used self.now) (length path_tags.now) ∷ room Of.PathData (words_used self.now) (length path_data.now) ∷ [])) (unless is_finite Error.NotFinite) ≡ Some e) }
     {
         let tags = self.encoding.path_tags;

@@ -1,8 +1,4 @@
-use Rattle.std.proofs.Common.{◌≡◌, ◌+◌, Err, sym, ◌∙◌, rules}
-use Rattle.encoding.specs.Sheet.{Sheet, sheet, with_draws, with_drawn}
-use Rattle.encoding.specs.Promises.{reason}
-use Rattle.encoding.specs.Rules.{begin_clip, counting}
-use Rattle.encoding.proofs.Reasons.{stops, goes_on}
+use Rattle.std.proofs.Common.{rules}
 use Rattle.encoding.proofs.encoding.Encoding.encode_begin_clip.Goals as goal
 
 pub returns-in_err-encode_draw : goal.returns-in_err-encode_draw

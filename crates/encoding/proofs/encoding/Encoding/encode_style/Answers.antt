@@ -1,4 +1,4 @@
-use Rattle.std.proofs.Common.{◌≡◌, Err, sym, subst, rules}
+use Rattle.std.proofs.Common.{◌≡◌, Err, rules}
 use Rattle.encoding.specs.Sheet.{with_styles}
 use Rattle.encoding.proofs.Settings.{style_declined}
 use Rattle.encoding.proofs.encoding.Encoding.encode_style.Goals as goal
