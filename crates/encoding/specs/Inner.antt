@@ -21,7 +21,7 @@ use Rattle.monoid.specs.declared.path.PathTag.{PathTag}
 use Rattle.encoding.specs.declared.encoding.Written.{Written}
 use Rattle.encoding.specs.Sheet.{Streams, Sheet, Used, Settings, first, settings, sheet, with_outlines}
 use Rattle.encoding.specs.Promises.{left_by}
-use Rattle.encoding.specs.Rules.{Nothing, added, set_to, error_in}
+use Rattle.encoding.specs.Rules.{added, set_to, error_in}
 
 -- the path tags, and the transforms or the styles
 pub record Place (X : Type 0) : Type 0 where
@@ -57,9 +57,8 @@ pub record SetAs {X : Type 0} (same : X → X → Bool) (x : Stream) (t : PathTa
   pub leaves : p' ≡ left_by (set_reason same x t n k made p) p (set_by same t made p)
 
 -- an accepted command adds one draw tag, and changes no count of clips
-abbrev pub OneMore : Result Nothing EncodeError → Encoding → Encoding → Type 0
-OneMore (Ok v) e e' = (e'.draw_tags ≡ e.draw_tags + 1) × (e'.n_clips ≡ e.n_clips) × (e'.n_open_clips ≡ e.n_open_clips)
-OneMore (Err x) e e' = Unit {0}
+abbrev pub OneMore : Encoding → Encoding → Type 0
+OneMore e e' = (e'.draw_tags ≡ e.draw_tags + 1) × (e'.n_clips ≡ e.n_clips) × (e'.n_open_clips ≡ e.n_open_clips)
 
 -- how many entries are used while a path is open
 

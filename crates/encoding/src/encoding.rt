@@ -37,7 +37,7 @@ pub struct Encoding {
 }
 
 // How many transforms or styles are used, and whether the next is written though it be the same as the last.
-#[derive(Clone, Copy)]
+#[derive(Clone, Copy, Debug, PartialEq, Eq)]
 pub(crate) struct Written {
     used: usize,
     forced: bool,

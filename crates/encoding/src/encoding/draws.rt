@@ -1,5 +1,5 @@
 // Draw and clip commands.
-ghost use Rattle.std.specs.Prelude.{◌≤◌, length};
+ghost use Rattle.std.specs.Prelude.{◌≤◌, length, OnOk};
 ghost use Rattle.encoding.specs.Promises.{OnDraws, OnTags};
 ghost use Rattle.encoding.specs.Rules.{draw_rule, color_rule, blur_rule, begin_clip, end_clip};
 ghost use Rattle.encoding.specs.Inner.{OneMore};
@@ -24,7 +24,7 @@ impl Encoding {
     ) -> Result<(), EncodeError>
         requires { length words.now ≤ 8 }
         ensures answered { OnDraws (draw_rule is_finite tag words.now (λ d. d)) self.old draw_tags.old draw_data.old result self.new draw_tags.new draw_data.new }
-        ensures grows { OneMore result self.old self.new }
+        ensures grows { OnOk result (OneMore self.old self.new) }
     {
         held(
             room(Stream::DrawTags, self.draw_tags, draw_tags),

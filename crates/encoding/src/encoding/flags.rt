@@ -4,6 +4,7 @@ ghost use Rattle.encoding.specs.Flags.{flags_of};
 
 use crate::encoding::Encoding;
 
+// The word and its bits are the crate's; the Encoding itself has two truth values.
 impl Encoding {
     /// The bit that has the next transform written though it be the same as the last.
     pub const FORCE_NEXT_TRANSFORM: u32 = 1;

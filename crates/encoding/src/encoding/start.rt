@@ -6,6 +6,7 @@ ghost use Rattle.encoding.specs.Rules.{forced};
 use crate::encoding::flags::flags_of;
 use crate::encoding::{Counts, Encoding, StreamOffsets, Written};
 
+// None are used, and none is forced.
 const NONE: Written = Written {
     used: 0,
     forced: false,
