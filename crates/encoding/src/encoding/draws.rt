@@ -12,6 +12,7 @@ use monoid::path::PathTag;
 use std::num::f32_to_bits_with_nan;
 use values::error::{EncodeError, Stream};
 
+// The calls and their arguments are the crate's: a mode of blending is two bytes there.
 impl Encoding {
     // Encodes a draw tag and its words, if the numbers that they were made from are finite.
     fn encode_draw(

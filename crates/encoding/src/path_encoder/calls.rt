@@ -18,6 +18,7 @@ use path::open_path::{Close, Move, PathStep};
 use std::ops::Range;
 use values::error::{EncodeError, Stream};
 
+// The five calls and their coordinates are the crate's, and the two streams are lent by the caller.
 impl PathEncoder {
     // Declines for a stream that is shorter than its used length, and then for numbers that are not finite. Else
     // tells the part of each stream that begins with the path and does not pass the maximum.
