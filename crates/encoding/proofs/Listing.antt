@@ -66,9 +66,6 @@ pub record Along (xs : List PathEl) (i : ℕ) (s₀ : Sheet) (m₀ : Streams) (s
   pub rest : after_elements xs s₀ ≡ after_elements (drop i xs) s
   pub shut : path_abandoned s ≡ path_abandoned s₀
 
-pub along_none : (xs : List PathEl) (s₀ : Sheet) (m₀ : Streams) → Along xs 0 s₀ m₀ s₀
-along_none xs s₀ m₀ = record { why = refl; rest = refl; shut = refl }
-
 module _ (xs : List PathEl) (i : ℕ) (x d : PathEl) (less : i < length xs) (at : get_or xs i d ≡ x) (s₀ : Sheet) (m₀ : Streams) (s : Sheet) (a : Along xs i s₀ m₀ s) where
   next-is : drop i xs ≡ x ∷ drop (i + 1) xs
   next-is = drop_more xs i d less ∙ ap (λ y. y ∷ drop (i + 1) xs) at

@@ -12,13 +12,12 @@ use Rattle.values.specs.declared.error.Stream.{Stream}
 use Rattle.values.specs.declared.error.Stream.TheVariants.{PathTags, PathData}
 use Rattle.values.specs.declared.error.EncodeError.{EncodeError}
 use Rattle.values.specs.declared.error.EncodeError.TheVariants.{ShortStream, FullStream}
-use Rattle.values.specs.Streams.{max_entries}
 use Rattle.values.specs.declared.room.Room.{Room}
-use Rattle.values.specs.Streams.{room}
+use Rattle.values.specs.Streams.{max_entries, room}
 use Rattle.values.specs.Errors.{short, full, or_else, told}
 use Rattle.values.specs.Settings.{is_new}
 use Rattle.monoid.specs.declared.path.PathTag.{PathTag}
-use Rattle.encoding.specs.declared.encoding.Written.{Written}
+use Rattle.encoding.specs.declared.encoding.SettingState.{SettingState}
 use Rattle.encoding.specs.Sheet.{Streams, Sheet, Used, Settings, first, settings, sheet, with_outlines}
 use Rattle.encoding.specs.Promises.{left_by}
 use Rattle.encoding.specs.Rules.{added, set_to, error_in}
@@ -28,7 +27,7 @@ pub record Place (X : Type 0) : Type 0 where
   pub tags : Used PathTag
   pub settings : Settings X
 
-abbrev pub place : {X : Type 0} → ℕ → List PathTag → Written → List X → Place X
+abbrev pub place : {X : Type 0} → ℕ → List PathTag → SettingState → List X → Place X
 place n ts u xs = record { tags = first n ts; settings = settings u xs }
 
 -- whether a value that was made is written there

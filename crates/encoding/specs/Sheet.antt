@@ -4,7 +4,7 @@ use Rattle.path.specs.Rules.{Path}
 use Rattle.monoid.specs.declared.path.PathTag.{PathTag}
 use Rattle.monoid.specs.declared.draw.DrawTag.{DrawTag}
 use Rattle.encoding.specs.declared.encoding.Encoding.{Encoding}
-use Rattle.encoding.specs.declared.encoding.Written.{Written}
+use Rattle.encoding.specs.declared.encoding.SettingState.{SettingState}
 use Rattle.encoding.specs.declared.encoding.StreamOffsets.{StreamOffsets}
 use Rattle.encoding.specs.declared.encoding.Counts.{Counts}
 use Rattle.values.specs.declared.transform.Transform.{Transform}
@@ -63,7 +63,7 @@ pub record Sheet : Type 0 where
 abbrev pub first : {X : Type 0} → ℕ → List X → Used X
 first n xs = record { count = n; entries = take n xs }
 
-abbrev pub settings : {X : Type 0} → Written → List X → Settings X
+abbrev pub settings : {X : Type 0} → SettingState → List X → Settings X
 settings u xs = record { written = first u.used xs; forced = u.forced }
 
 abbrev pub sheet : Encoding → Streams → Sheet

@@ -15,12 +15,13 @@ mod start;
 /// are free: a call may leave anything there, and nothing that a call answers or writes depends on them.
 #[derive(Drop)]
 pub struct Encoding {
+    // Each length by itself, as two of them stand beside what is forced.
     pub(crate) path_tags: usize,
     pub(crate) path_data: usize,
     draw_tags: usize,
     draw_data: usize,
-    transforms: Written,
-    styles: Written,
+    transforms: SettingState,
+    styles: SettingState,
     pub(crate) n_paths: u32,
     pub(crate) n_path_segments: u32,
     n_clips: u32,
@@ -38,7 +39,7 @@ pub struct Encoding {
 
 // How many transforms or styles are used, and whether the next is written though it be the same as the last.
 #[derive(Clone, Copy, Debug, PartialEq, Eq)]
-pub(crate) struct Written {
+pub(crate) struct SettingState {
     used: usize,
     forced: bool,
 }
@@ -61,5 +62,6 @@ pub struct Counts {
     pub n_path_segments: u32,
     pub n_clips: u32,
     pub n_open_clips: u32,
+    // the crate's word of two bits
     pub flags: u32,
 }

@@ -10,7 +10,7 @@ mod calls;
 mod elements;
 mod finish;
 mod opening;
-mod relay;
+mod refusals;
 
 /// An open path, which holds the Encoding as it was when the path was opened. Only `finish` and `abandon`
 /// give the Encoding back.

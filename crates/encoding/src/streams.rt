@@ -43,6 +43,9 @@ pub(crate) fn room<T>(stream: Stream, used: usize, entries: &[T]) -> Room
     }
 }
 
+// Every call that writes makes these two checks, its own between them, and then appends to its two streams: what is
+// common is said by `held`, `fits` and `append`, and a closure for the rest would hide the order.
+
 // Declines for the first of two streams that is shorter than its used length.
 pub(crate) fn held(a: Room, b: Room) -> Result<(), EncodeError>
     ensures passed { OnOk result ((short (a ∷ b ∷ []) ≡ None) × (a.used ≤ a.space) × (b.used ≤ b.space)) }
@@ -57,7 +60,8 @@ pub(crate) fn held(a: Room, b: Room) -> Result<(), EncodeError>
     }
 }
 
-// Declines for the first of two streams that would be used past its end or its maximum.
+// Declines for the first of two streams that would be used past its end or its maximum. It has a test and a refusal of
+// its own, so that one function for both would take the two as closures.
 pub(crate) fn fits(a: Room, b: Room) -> Result<(), EncodeError>
     ensures passed { OnOk result ((full (a ∷ b ∷ []) ≡ None) × Fit a × Fit b) }
     ensures declined { IfErr result (λ e. full (a ∷ b ∷ []) ≡ Some e) }

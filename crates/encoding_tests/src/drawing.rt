@@ -35,6 +35,7 @@ fn two_colors(encoding: &mut Encoding, draw_tags: &mut [DrawTag], draw_data: &mu
     let _ = encoding.encode_color(draw_tags, draw_data, 8);
 }
 
+// The table's commands are data, so a match makes each call.
 fn last_command(
     encoding: &mut Encoding,
     tags: &mut [DrawTag],
@@ -98,6 +99,7 @@ enum Clips {
     Ended,
 }
 
+// Likewise.
 fn clipped(
     clips: Clips,
     path_tags: &mut [PathTag],

@@ -16,6 +16,7 @@ enum Stage {
     Drawn,
 }
 
+// The table's stages are data, so a match makes the calls.
 fn opened(is_fill: bool, stage: Stage, tags: &mut [PathTag], words: &mut [u32]) -> PathEncoder {
     let mut path = Encoding::new().encode_path(is_fill);
     match stage {

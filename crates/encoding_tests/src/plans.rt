@@ -219,22 +219,24 @@ fn a_clipped_colour(rt: HostRuntime) {
     );
 }
 
+const UNIT: Transform = Transform {
+    matrix: [1.0, 0.0, 0.0, 1.0],
+    translation: [0.0, 0.0],
+};
+
+const THICK: Stroke = Stroke {
+    width: 2.5,
+    join: Join::Miter,
+    miter_limit: 4.0,
+    start_cap: Cap::Square,
+    end_cap: Cap::Round,
+};
+
 // A transform and a style, forced and not, and a reset.
 #[test]
 fn settings_and_flags(rt: HostRuntime) {
-    let unit = Transform {
-        matrix: [1.0, 0.0, 0.0, 1.0],
-        translation: [0.0, 0.0],
-    };
-    let thick = Stroke {
-        width: 2.5,
-        join: Join::Miter,
-        miter_limit: 4.0,
-        start_cap: Cap::Square,
-        end_cap: Cap::Round,
-    };
     let mut path_tags = [PathTag(0); 8];
-    let mut transforms = [unit; 4];
+    let mut transforms = [UNIT; 4];
     let mut styles = [Style::from_fill(Fill::NonZero); 4];
     let mut encoding = Encoding::new();
     encoding.force_next_transform_and_style();
@@ -245,7 +247,7 @@ fn settings_and_flags(rt: HostRuntime) {
             ..NOTHING
         }
     );
-    let wrote = encoding.encode_transform(&mut path_tags, &mut transforms, unit);
+    let wrote = encoding.encode_transform(&mut path_tags, &mut transforms, UNIT);
     assert_eq!(rt;
         encoding.counts(),
         Counts {
@@ -253,8 +255,8 @@ fn settings_and_flags(rt: HostRuntime) {
             ..NOTHING
         }
     );
-    let again = encoding.encode_transform(&mut path_tags, &mut transforms, unit);
-    let stroke = encoding.encode_stroke_style(&mut path_tags, &mut styles, thick);
+    let again = encoding.encode_transform(&mut path_tags, &mut transforms, UNIT);
+    let stroke = encoding.encode_stroke_style(&mut path_tags, &mut styles, THICK);
     assert_eq!(rt; (wrote, again, stroke), (Ok(true), Ok(false), Ok(true)));
     assert_eq!(rt; styles[0].flags_and_miter_limit, 0x9600_4400);
     assert_eq!(rt;

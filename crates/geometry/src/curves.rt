@@ -10,7 +10,7 @@ use crate::tangents::{cubic_end, line_end, quad_end};
 use std::num::f32_to_bits_with_nan;
 
 /// The point of two numbers.
-// Callers hold the two apart, so `Point::from((x, y))` would say no more.
+// A constructor, as the path calls are handed two numbers: a pair made for `From` would say no more.
 pub fn point_of(x: f32, y: f32) -> Point
     ensures { result ≡ point_of x y }
 {
@@ -21,14 +21,15 @@ pub fn point_of(x: f32, y: f32) -> Point
 }
 
 /// Whether two points are the same, bit for bit.
+// The name of the definition, for the derived equality.
 pub fn is_same_point(p: Point, q: Point) -> bool
     ensures { result ≡ same_point p q }
 {
     p == q
 }
 
-// Each kind takes the end of its tangent apart by itself: passed on as an option to a method for all
-// kinds, a line's tangent took 10.0 ns and not 7.0.
+// Each kind takes the end of its tangent apart by `let .. else`, the form that the project has for it: passed on as an
+// option to a method for all kinds, a line's tangent took 10.0 ns and not 7.0.
 /// A segment past the point that it starts from.
 pub trait Curve: Copy {
     ghost segment: { Self → Segment };

@@ -25,6 +25,7 @@ pub fn number_at(bits: u32) -> Option<f32>
 }
 
 /// Whether two are equal as numbers: 0.0 equals -0.0, and a NaN nothing.
+// It carries the laws of the comparison that styles and transforms derive.
 pub fn same_number(a: f32, b: f32) -> bool
     ensures value { result ≡ same_number a b }
     ensures laws { ComparedAsNumbers }
@@ -33,6 +34,7 @@ pub fn same_number(a: f32, b: f32) -> bool
 }
 
 /// Whether two lists are equal, number by number.
+// The name of the definition, for the equality of slices.
 pub fn same_numbers(xs: &[f32], ys: &[f32]) -> bool
     ensures { result ≡ same_numbers xs.now ys.now }
 {

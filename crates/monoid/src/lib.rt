@@ -76,8 +76,8 @@ pub trait Monoid: Copy {
         ensures { Combined meaning Fits (op (meaning self.now) (meaning other.now)) result };
 
     /// This record and then the other, where the result is known to fit.
-    // A body of its own for each kind: as `self.combine(other).unwrap()`, stated once, the path records of a million words
-    // took 5.4 ms to reduce, and so 0.5. Nor is `combine` shorter by a question whether a sum fits, with each field again.
+    // A body of its own for each kind: as `self.combine(other).unwrap()`, stated once, a reduction took 2 to 16 times as
+    // long. Nor is `combine` shorter by a question whether a sum fits, with each field again.
     fn combine_fitting(&self, other: &Self) -> Self
         requires { Fits (op (meaning self.now) (meaning other.now)) }
         ensures { meaning result ≡ op (meaning self.now) (meaning other.now) };

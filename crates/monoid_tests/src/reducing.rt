@@ -22,7 +22,16 @@ fn a_clipped_colour(rt: HostRuntime) {
 
 #[test]
 fn the_empty_list(rt: HostRuntime) {
-    assert_eq!(rt; reduce(&[]), Ok(PathMonoid::identity()));
+    assert_eq!(rt;
+        reduce(&[]),
+        Ok(PathMonoid {
+            trans_ix: 0,
+            pathseg_ix: 0,
+            pathseg_offset: 0,
+            style_ix: 0,
+            path_ix: 0
+        })
+    );
     assert_eq!(rt;
         reduce(&[]),
         Ok(DrawMonoid {

@@ -55,7 +55,9 @@ pub fn make(
 
 // Whether the first tags are the expected ones.
 pub fn tags_are(tags: &[PathTag], used: usize, expected: &[u8]) -> bool {
-    used == expected.len() && tags.iter().zip(expected).all(|(tag, bits)| tag.0 == *bits)
+    used == expected.len()
+        && used <= tags.len()
+        && tags.iter().zip(expected).all(|(tag, bits)| tag.0 == *bits)
 }
 
 // Whether the first words are the expected ones.

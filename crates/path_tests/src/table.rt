@@ -298,6 +298,7 @@ fn point(x: u8, y: u8) -> Point {
     at(pattern(x), pattern(y))
 }
 
+// Rows are data: a match brings a path to the state, and another makes the call.
 fn brought_to(
     before: Before,
     path: &mut OpenPath,
@@ -341,6 +342,7 @@ fn entries_are(
     row_words: &[u8],
 ) -> bool {
     used.words == row_words.len()
+        && used.words <= words.len()
         && words
             .iter()
             .zip(row_words)

@@ -54,9 +54,6 @@ pub record Filled {R : Type 0} (P : ℕ → R → Type 0) (was rows : List R) (n
   pub rest : (j : ℕ) → n ≤ j → (d : R) → get_or rows j d ≡ get_or was j d
   pub size : length rows ≡ length was
 
-pub filled_none : {R : Type 0} (P : ℕ → R → Type 0) (was : List R) → Filled P was was 0
-filled_none P was = record { each = λ j h l d. absurd (omega arith); rest = λ j h d. refl; size = refl }
-
 module _ {R : Type 0} (P : ℕ → R → Type 0) (was rows : List R) (n : ℕ) (x : R) (f : Filled P was rows n) where
   each_more : P n x → (j : ℕ) → j < n + 1 → j < length was → (d : R) → P j (get_or (set rows n x) j d)
   each_more p j h l d =

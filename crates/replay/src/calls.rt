@@ -33,7 +33,7 @@ pub enum Call<'a> {
         radius: f32,
         std_dev: f32,
     },
-    /// `encode_begin_clip`.
+    /// `encode_begin_clip`. Any two bytes are handed on, as the rules say.
     BeginClip {
         mix: u8,
         compose: u8,
@@ -59,6 +59,7 @@ pub enum Call<'a> {
 }
 
 /// What a call answered.
+// One enum: as an Option of a Result it would take two enums more, and say the same six cases.
 #[derive(Clone, Copy, Debug, PartialEq, Eq)]
 pub enum Answer {
     /// It was accepted.
@@ -75,6 +76,7 @@ pub enum Answer {
     NotNow,
 }
 
+// Three types of results, and each names its own case.
 impl From<Result<(), EncodeError>> for Answer {
     ghost from_gives = { λ r a. a ≡ answer_of done r };
 

@@ -59,8 +59,8 @@ fn eight_at(words: &[u32], offset: u32, n: usize) -> [u32; 8]
     array::from_fn(|i| word_at(words, offset, n, i))
 }
 
-// A segment at the offsets that were counted before it, or none for a tag that is no segment. The three streams go
-// together here alone: a struct of them is longer.
+// A segment at the offsets that were counted before it, or none for a tag that is no segment. `read_segments` is lent the
+// three streams one by one, so a struct of them would be made and taken apart at once.
 fn segment_at(
     path_data: &[u32],
     transforms: &[Transform],

@@ -24,7 +24,7 @@ struct Streams<'a> {
     styles: &'a mut [Style],
 }
 
-// Makes a call with no path open that opens none.
+// Makes a call with no path open that opens none. Calls are data, so each is made in its arm of a match.
 fn answer_closed(encoding: &mut Encoding, call: Call, streams: &mut Streams) -> Answer
     ensures called { CalledClosed (meant call.entry) (sheet encoding.old (held streams.old)) (held streams.old) result (sheet encoding.new (held streams.new)) }
     ensures same { SameStreams streams.old streams.new }
@@ -99,7 +99,7 @@ fn call_closed(mut encoding: Encoding, call: Call, streams: &mut Streams) -> (Pl
     (Plan::Closed(encoding), answer)
 }
 
-// Makes a call with a path open.
+// Makes a call with a path open, likewise.
 fn call_open(mut path: PathEncoder, call: Call, streams: &mut Streams) -> (Plan, Answer)
     ensures called { Called (meant call.entry) (Plans.Open path) (held streams.old) result.1 result.0 (held streams.new) }
     ensures same { SameStreams streams.old streams.new }

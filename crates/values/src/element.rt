@@ -2,6 +2,7 @@
 use crate::error::EncodeError;
 
 /// One element of a path, with the coordinates of its points.
+// Two, four or six numbers in a case: the form that the project has for elements.
 #[derive(Clone, Copy, Debug, PartialEq)]
 pub enum PathEl {
     /// Another subpath begins at a point.

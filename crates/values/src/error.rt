@@ -58,7 +58,7 @@ impl EncodeError {
     pub fn number(self) -> u32
         ensures { result ≡ number self }
     {
-        // A match, as a refusal that holds a stream has no discriminant of its own.
+        // A match, as an enum that holds a stream is not cast to its number.
         match self {
             EncodeError::ShortStream(_) => 1,
             EncodeError::FullStream(_) => 2,

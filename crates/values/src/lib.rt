@@ -1,4 +1,4 @@
-// What the calls of a plan are handed and what they answer: transforms, styles, elements, refusals.
+// What the calls of a plan are handed and what they answer: transforms, styles, elements, the room of a stream, refusals.
 #![tactic(auto)]
 
 pub mod element;

@@ -128,6 +128,7 @@ impl Style {
     }
 }
 
+// The bits of a join: the crate names them as constants, which discriminants would say twice.
 fn join_bits(join: Join) -> u32
     ensures { result ≡ join_bits join }
 {

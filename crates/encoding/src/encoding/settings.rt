@@ -9,7 +9,7 @@ ghost use Rattle.encoding.specs.Promises.{OnStyles, OnTransforms};
 ghost use Rattle.encoding.specs.Rules.{transform_rule, style_rule, fill_rule, stroke_rule};
 ghost use Rattle.encoding.specs.Inner.{SetAs, place};
 
-use crate::encoding::{Encoding, Written};
+use crate::encoding::{Encoding, SettingState};
 use crate::streams::{append, fits, held, is_new, room};
 use monoid::path::PathTag;
 use values::error::{EncodeError, Stream};
@@ -17,12 +17,13 @@ use values::setting::Setting;
 use values::style::{Fill, Stroke, Style};
 use values::transform::Transform;
 
-// Writes a transform or a style that was made, with its tag, unless it is the last one, and says whether it did.
+// Writes a transform or a style that was made, with its tag, unless it is the last one, and says whether it did. The
+// stream and the tag are handed in by the two calls: a trait with them would name them twice.
 fn encode_setting<T: Setting>(
     path_tags: &mut [PathTag],
     tags_used: &mut usize,
     entries: &mut [T],
-    settings: &mut Written,
+    settings: &mut SettingState,
     stream: Stream,
     tag: PathTag,
     made: Result<T, EncodeError>,

@@ -4,10 +4,10 @@ ghost use Rattle.encoding.specs.Sheet.{Streams, sheet, blank, offsets_of, counts
 ghost use Rattle.encoding.specs.Rules.{forced};
 
 use crate::encoding::flags::flags_of;
-use crate::encoding::{Counts, Encoding, StreamOffsets, Written};
+use crate::encoding::{Counts, Encoding, SettingState, StreamOffsets};
 
 // None are used, and none is forced.
-const NONE: Written = Written {
+const UNUSED: SettingState = SettingState {
     used: 0,
     forced: false,
 };
@@ -22,8 +22,8 @@ impl Encoding {
             path_data: 0,
             draw_tags: 0,
             draw_data: 0,
-            transforms: NONE,
-            styles: NONE,
+            transforms: UNUSED,
+            styles: UNUSED,
             n_paths: 0,
             n_path_segments: 0,
             n_clips: 0,

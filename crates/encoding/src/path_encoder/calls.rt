@@ -9,7 +9,7 @@ ghost use Rattle.encoding.specs.Paths.{step_rule, move_rule, line_rule, quad_rul
 ghost use Rattle.encoding.specs.Inner.{lent_tags, lent_words, tags_used, words_used};
 
 use crate::path_encoder::PathEncoder;
-use crate::path_encoder::relay::error_of;
+use crate::path_encoder::refusals::error_of;
 use crate::streams::{held, room};
 use geometry::curves::{Cubic, Line, Quad, point_of};
 use geometry::numbers::all_finite;

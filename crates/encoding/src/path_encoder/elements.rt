@@ -19,6 +19,7 @@ impl PathEncoder {
     ) -> Result<(), EncodeError>
         ensures { OnPath (element_rule element) self.old path_tags.old path_data.old result self.new path_tags.new path_data.new }
     {
+        // A match, as an element is data.
         match element {
             PathEl::MoveTo(x, y) => self.move_to(path_tags, path_data, x, y),
             PathEl::LineTo(x, y) => self.line_to(path_tags, path_data, x, y),

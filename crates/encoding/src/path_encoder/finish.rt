@@ -7,7 +7,7 @@ ghost use Rattle.encoding.specs.Inner.{FitsBehind, joined};
 
 use crate::encoding::Encoding;
 use crate::path_encoder::PathEncoder;
-use crate::path_encoder::relay::error_of;
+use crate::path_encoder::refusals::error_of;
 use monoid::path::PathTag;
 use path::state::Finished;
 use values::error::EncodeError;
