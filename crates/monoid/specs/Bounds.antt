@@ -50,6 +50,9 @@ tag_few t =
     let words = mul-le (tags.segment_type t + tags.bit 2 t) (1 + tags.bit 3 t) 4 2 (omega arith) (omega arith) in
     (omega arith, omega arith, omega arith, omega arith, omega arith)
 
+pub plus_few : (m n : ℕ) (x y : tags.Counts) → OfTags m x → OfTags n y → OfTags (m + n) (tags.plus x y)
+plus_few m n x y h k = (omega arith, omega arith, omega arith, omega arith, omega arith)
+
 pub tags_few : (ts : List PathTag) → OfTags (length ts) (reduced tags.none tags.plus tags.from_tag ts)
 tags_few [] = (omega arith, omega arith, omega arith, omega arith, omega arith)
 tags_few (t ∷ ts) =
