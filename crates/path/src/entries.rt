@@ -6,7 +6,8 @@ use geometry::curves::{Cubic, Curve, Line, Quad};
 use geometry::points::Point;
 use monoid::path::PathTag;
 
-// Writes a point after the first `at` words, and says how many are used then.
+// Writes a point after the first `at` words, and says how many are used then. This and `write_tag` are no `append` shared
+// with the streams of a plan: that would be a public call that asks something of its callers.
 pub(crate) fn write_point(words: &mut [u32], at: usize, p: Point) -> usize
     requires { at + 2 ≤ length words.old }
     ensures used { result ≡ at + 2 }
@@ -75,7 +76,7 @@ pub(crate) fn write_tag(tags: &mut [PathTag], at: usize, tag: PathTag) -> usize
     at + 1
 }
 
-// Makes the last tag end its subpath.
+// Makes the last tag end its subpath, by its place: a proof knows no entry of a slice after `last_mut`.
 pub(crate) fn end_last(tags: &mut [PathTag])
     requires { 0 < length tags.old }
     ensures { tags.new ≡ end_last tags.old }
@@ -101,7 +102,7 @@ pub(crate) fn end_path(tags: &mut [PathTag], n: usize, insert_path_marker: bool)
     n
 }
 
-// The point in the last two words.
+// The point in the last two words, by their places: a pattern would have an arm that is never taken.
 pub(crate) fn last_point(words: &[u32]) -> Point
     requires { 2 ≤ length words.now }
     ensures { result ≡ last_point words.now }

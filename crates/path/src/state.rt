@@ -32,6 +32,7 @@ pub enum Stream {
     PathData,
 }
 
+// The reasons that a path can have: an Encoding has three more, and its streams.
 /// Why a call was declined: a stream shorter than the entries in use, or with no space for what the call leaves.
 #[derive(Clone, Copy, PartialEq, Eq, Debug)]
 pub enum Declined {

@@ -8,7 +8,7 @@ ghost use Rattle.path.specs.View.{lent, view};
 ghost use Rattle.path.specs.Calls.{in_use, Answered, Ended};
 
 use crate::open_path::OpenPath;
-use crate::open_path::steps::PathStep;
+use crate::open_path::steps::{Admitted, PathStep};
 use crate::state::{Call, Declined, Finished, PathState, Used};
 use geometry::points::Point;
 use monoid::path::PathTag;
@@ -53,7 +53,7 @@ impl OpenPath {
         ensures { Answered (Take (S.step step)) (lent self.old tags.old words.old) result (lent self.new tags.new words.new) }
     {
         self.admit(tags, words, step)?;
-        step.take(self, tags, words);
+        step.take(self, tags, words, Admitted);
         Ok(())
     }
 

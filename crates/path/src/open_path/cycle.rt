@@ -1,5 +1,6 @@
-// The calls on an open path that has space for them. `move_to`, `line_to`, `quad_to` and `close` call one another, as a
-// marker is drawn by the calls that draw. Calls of a cycle have the same type parameters, so each kind has its own.
+// The calls on an open path that has space for them. `move_to`, `line_to`, `quad_to` and `close` call one another, as the
+// crate's do: a marker is drawn by the calls that draw. Calls of a cycle have the same type parameters, so each kind of
+// segment has its own; `cubic_to` is like them, though no marker needs it.
 // The path and the slices that it is lent go one by one. In one struct they prove, and a line that goes on takes as long,
 // but a quadratic takes 6 percent longer and a triangle that is closed 13, as each call reads the struct from memory.
 ghost use Rattle.std.specs.Prelude.{◌≡◌, ◌≤◌, ◌≢◌, length};

@@ -7,7 +7,7 @@ ghost use Rattle.path.specs.View.{lent, view, Held, Ready, Does};
 ghost use Rattle.path.specs.Calls.{in_use, declined, said, needs};
 
 use crate::open_path::OpenPath;
-use crate::open_path::steps::{PathStep, Taken};
+use crate::open_path::steps::{Admitted, PathStep};
 use crate::state::{Call, Declined, Stream, Used};
 use monoid::path::PathTag;
 
@@ -44,7 +44,7 @@ impl OpenPath {
         ensures { Does (call-rule call) (lent self.old tags.old words.old) (lent self.new tags.new words.new) }
     {
         match call {
-            Call::Take(step) => step.take(self, tags, words),
+            Call::Take(step) => step.take(self, tags, words, Admitted),
             Call::Finish(insert_path_marker) => {
                 let _ = self.finish(tags, words, insert_path_marker);
             }

@@ -13,22 +13,23 @@ use geometry::curves::{Cubic, Line, Quad};
 use geometry::points::{Point, Segment};
 use monoid::path::PathTag;
 
-// What a step is, and how a path that has space for it takes it. The trait is named in the crate alone.
-pub trait Taken: Copy {
+// Made in this crate alone, so that a step is taken by `try_take` only, once there is space for it.
+#[derive(Clone, Copy)]
+pub struct Admitted;
+
+/// A step that an open path takes or declines. Each is a type, as an enum passed by value cost most of a line's time.
+pub trait PathStep: Copy {
     ghost step: { Self → Step };
 
+    /// The step as a call.
     fn call(self) -> Call
         ensures { result ≡ Take (step self) };
 
-    fn take(self, path: &mut OpenPath, tags: &mut [PathTag], words: &mut [u32])
+    /// Takes the step on a path that has space for it.
+    fn take(self, path: &mut OpenPath, tags: &mut [PathTag], words: &mut [u32], admitted: Admitted)
         requires { Ready (step-rule (step self)) (lent path.old tags.old words.old) }
         ensures { Does (step-rule (step self)) (lent path.old tags.old words.old) (lent path.new tags.new words.new) };
 }
-
-/// A step that an open path takes or declines.
-pub trait PathStep: Taken {}
-
-impl<S: Taken> PathStep for S {}
 
 /// A move to a point.
 #[derive(Clone, Copy, PartialEq, Eq, Debug)]
@@ -38,19 +39,19 @@ pub struct Move(pub Point);
 #[derive(Clone, Copy, PartialEq, Eq, Debug)]
 pub struct Close;
 
-impl Taken for Move {
+impl PathStep for Move {
     ghost step = { λ s. Took.Move s.0 };
 
     fn call(self) -> Call {
         Call::Take(Step::Move(self.0))
     }
 
-    fn take(self, path: &mut OpenPath, tags: &mut [PathTag], words: &mut [u32]) {
+    fn take(self, path: &mut OpenPath, tags: &mut [PathTag], words: &mut [u32], _: Admitted) {
         path.move_to(tags, words, self.0);
     }
 }
 
-impl Taken for Line {
+impl PathStep for Line {
     ghost step = { λ s. Took.Draw (Of.Line s.0) };
 
     fn call(self) -> Call {
@@ -58,62 +59,68 @@ impl Taken for Line {
     }
 
     #[inline(always)]
-    fn take(self, path: &mut OpenPath, tags: &mut [PathTag], words: &mut [u32]) {
+    fn take(self, path: &mut OpenPath, tags: &mut [PathTag], words: &mut [u32], _: Admitted) {
         path.line_on(tags, words, self.0);
     }
 }
 
-impl Taken for Quad {
+impl PathStep for Quad {
     ghost step = { λ s. Took.Draw (Of.Quad s.0 s.1) };
 
     fn call(self) -> Call {
         Call::Take(Step::Draw(Segment::Quad(self.0, self.1)))
     }
 
-    fn take(self, path: &mut OpenPath, tags: &mut [PathTag], words: &mut [u32]) {
+    fn take(self, path: &mut OpenPath, tags: &mut [PathTag], words: &mut [u32], _: Admitted) {
         path.quad_to(tags, words, self.0, self.1);
     }
 }
 
-impl Taken for Cubic {
+impl PathStep for Cubic {
     ghost step = { λ s. Took.Draw (Of.Cubic s.0 s.1 s.2) };
 
     fn call(self) -> Call {
         Call::Take(Step::Draw(Segment::Cubic(self.0, self.1, self.2)))
     }
 
-    fn take(self, path: &mut OpenPath, tags: &mut [PathTag], words: &mut [u32]) {
+    fn take(self, path: &mut OpenPath, tags: &mut [PathTag], words: &mut [u32], _: Admitted) {
         path.cubic_to(tags, words, self.0, self.1, self.2);
     }
 }
 
-impl Taken for Close {
+impl PathStep for Close {
     ghost step = { λ _. Took.Close };
 
     fn call(self) -> Call {
         Call::Take(Step::Close)
     }
 
-    fn take(self, path: &mut OpenPath, tags: &mut [PathTag], words: &mut [u32]) {
+    fn take(self, path: &mut OpenPath, tags: &mut [PathTag], words: &mut [u32], _: Admitted) {
         path.close(tags, words);
     }
 }
 
 // A step as a value of one type.
-impl Taken for Step {
+impl PathStep for Step {
     ghost step = { λ s. s };
 
     fn call(self) -> Call {
         Call::Take(self)
     }
 
-    fn take(self, path: &mut OpenPath, tags: &mut [PathTag], words: &mut [u32]) {
+    fn take(
+        self,
+        path: &mut OpenPath,
+        tags: &mut [PathTag],
+        words: &mut [u32],
+        admitted: Admitted,
+    ) {
         match self {
-            Step::Move(p) => Move(p).take(path, tags, words),
-            Step::Draw(Segment::Line(p)) => Line(p).take(path, tags, words),
-            Step::Draw(Segment::Quad(p, q)) => Quad(p, q).take(path, tags, words),
-            Step::Draw(Segment::Cubic(p, q, r)) => Cubic(p, q, r).take(path, tags, words),
-            Step::Close => Close.take(path, tags, words),
+            Step::Move(p) => Move(p).take(path, tags, words, admitted),
+            Step::Draw(Segment::Line(p)) => Line(p).take(path, tags, words, admitted),
+            Step::Draw(Segment::Quad(p, q)) => Quad(p, q).take(path, tags, words, admitted),
+            Step::Draw(Segment::Cubic(p, q, r)) => Cubic(p, q, r).take(path, tags, words, admitted),
+            Step::Close => Close.take(path, tags, words, admitted),
         }
     }
 }
