@@ -43,8 +43,8 @@ pub(crate) fn room<T>(stream: Stream, used: usize, entries: &[T]) -> Room
     }
 }
 
-// Every call that writes makes these two checks, its own between them, and then appends to its two streams: what is
-// common is said by `held`, `fits` and `append`, and a closure for the rest would hide the order.
+// The four calls that append make these two checks, their own, if any, between them: what is common is said by `held`,
+// `fits` and `append`, and a closure for the rest would hide the order.
 
 // Declines for the first of two streams that is shorter than its used length.
 pub(crate) fn held(a: Room, b: Room) -> Result<(), EncodeError>

@@ -99,7 +99,7 @@ enum Clips {
     Ended,
 }
 
-// Likewise.
+// The table's clips are data, so a match makes the calls.
 fn clipped(
     clips: Clips,
     path_tags: &mut [PathTag],

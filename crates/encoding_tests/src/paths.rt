@@ -50,7 +50,7 @@ const FAR_QUAD: PathEl = PathEl::QuadTo(2.0, 2.0, INFINITE, 1.0);
 
 const FAR_CUBIC: PathEl = PathEl::CurveTo(2.0, 2.0, 3.0, 3.0, INFINITE, 1.0);
 
-// The element by the path call of its own, not by `encode_element`.
+// The element by the path call of its own, and not by `encode_element`. Elements are data, so a match makes the call.
 fn taken(
     path: &mut PathEncoder,
     step: PathEl,

@@ -66,7 +66,7 @@ impl Written for Cubic {
     }
 }
 
-// Writes a tag after the first `at`.
+// Writes a tag after the first `at`, by its place: a proof knows no entry of a slice after `get_mut`.
 pub(crate) fn write_tag(tags: &mut [PathTag], at: usize, tag: PathTag) -> usize
     requires { at < length tags.old }
     ensures used { result ≡ at + 1 }
@@ -96,6 +96,7 @@ pub(crate) fn end_path(tags: &mut [PathTag], n: usize, insert_path_marker: bool)
     }
     end_last(&mut tags[..n]);
     if insert_path_marker {
+        // By hand: with `write_tag` the proof of what is held then did not close.
         tags[n] = PathTag::PATH;
         return n + 1;
     }

@@ -22,7 +22,7 @@ pub struct OpenPath {
     is_fill: bool,
     first_point: Point,
     first_start_tangent_end: Point,
-    // Two fields and no `Used`, as each call changes one of them.
+    // Two fields and no `Used`, as each is set by itself, to what the write to its stream answers.
     tags: usize,
     words: usize,
     ghost holds_point: { by_state 0 2 2 state ≤ words },

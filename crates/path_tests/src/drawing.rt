@@ -34,7 +34,7 @@ pub fn take_all(
     Ok(())
 }
 
-// Makes a call: what is in use then, or why it was declined.
+// Makes a call, which is data, by a match: what is in use then, or why it was declined.
 pub fn make(
     mut path: OpenPath,
     tags: &mut [PathTag],
@@ -57,7 +57,10 @@ pub fn make(
 pub fn tags_are(tags: &[PathTag], used: usize, expected: &[u8]) -> bool {
     used == expected.len()
         && used <= tags.len()
-        && tags.iter().zip(expected).all(|(tag, bits)| tag.0 == *bits)
+        && tags
+            .iter()
+            .zip(expected)
+            .all(|(tag, bits)| *tag == PathTag(*bits))
 }
 
 // Whether the first words are the expected ones.

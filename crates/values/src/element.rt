@@ -2,7 +2,7 @@
 use crate::error::EncodeError;
 
 /// One element of a path, with the coordinates of its points.
-// Two, four or six numbers in a case: the form that the project has for elements.
+// Coordinates, as the path calls are handed them: points would be taken apart at once.
 #[derive(Clone, Copy, Debug, PartialEq)]
 pub enum PathEl {
     /// Another subpath begins at a point.

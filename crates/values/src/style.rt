@@ -85,6 +85,7 @@ impl Style {
     pub const MITER_LIMIT_MASK: u32 = 0xffff;
 
     /// The style of a fill.
+    // `from_fill` and `from_stroke` are the crate's names, so these are no impls of From.
     pub fn from_fill(fill: Fill) -> Style
         ensures { result ≡ fill_style fill }
     {

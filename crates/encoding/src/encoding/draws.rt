@@ -12,7 +12,8 @@ use monoid::path::PathTag;
 use std::num::f32_to_bits_with_nan;
 use values::error::{EncodeError, Stream};
 
-// The calls and their arguments are the crate's: a mode of blending is two bytes there.
+// `mix` and `compose` are bytes of which the rules take any: an enum would ask more of callers. The sizes of a blurred
+// rectangle are the crate's.
 impl Encoding {
     // Encodes a draw tag and its words, if the numbers that they were made from are finite.
     fn encode_draw(

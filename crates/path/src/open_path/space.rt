@@ -38,7 +38,7 @@ fn lacking(used: Used, tags: usize, words: usize) -> Option<Stream>
 }
 
 impl OpenPath {
-    // Makes a call that there is space for.
+    // Makes a call that there is space for. A call is data here, so a match makes it.
     fn run(&mut self, tags: &mut [PathTag], words: &mut [u32], call: Call)
         requires { Ready (call-rule call) (lent self.old tags.old words.old) }
         ensures { Does (call-rule call) (lent self.old tags.old words.old) (lent self.new tags.new words.new) }

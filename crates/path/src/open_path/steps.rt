@@ -100,7 +100,7 @@ impl PathStep for Close {
     }
 }
 
-// A step as a value of one type.
+// A step as a value of one type: data, so a match makes it one of the others.
 impl PathStep for Step {
     ghost step = { λ s. s };
 
