@@ -1,8 +1,8 @@
 -- The tags of a path at its finish.
-use Rattle.std.proofs.Common.{◌≡◌, ℕ, ◌+◌, ◌<◌, ◌≤◌, Bool, true, false, cond, eqb, List, [], ◌∷◌, ◌++◌, length, take, drop, set, sym, refl, ap, ◌∙◌, arith, length-append, length-drop, eq-eqb, ne_eqb, eqb-true}
+use Rattle.std.proofs.Common.{◌≡◌, ℕ, ◌+◌, ◌<◌, ◌≤◌, Bool, true, false, cond, eqb, List, [], ◌∷◌, ◌++◌, length, take, drop, sym, refl, ap, ◌∙◌, arith, length-append, length-drop, eq-eqb, ne_eqb, eqb-true}
 use borrow.Author.Tests.{eqb-false}
 use Rattle.std.proofs.Math.Seq.{take-append_seam}
-use Rattle.std.proofs.lemmas.List.{length-take-le, take_more_set}
+use Rattle.std.proofs.lemmas.List.{length-take-le}
 use Rattle.monoid.specs.declared.path.PathTag.{PathTag}
 use Rattle.path.specs.Entries.{end_last, finished, path_tag}
 use Rattle.path.proofs.Lists.{length-end_last}
@@ -52,14 +52,14 @@ end-room mark ts n m p h r =
     let e : length (finished mark (take n ts)) ≡ length (take n ts) + 1 = length_some mark (take n ts) k ∙ ap (λ b. length (take n ts) + cond b 1 0) m in
     omega arith
 
-pub end-tag : (mark : Bool) (ts us : List PathTag) (n : ℕ) → mark ≡ true → 0 < n → n ≤ length ts → n < length us → take n us ≡ end_last (take n ts) → Ends mark ts (set us n path_tag) n (n + 1)
-end-tag mark ts us n m p h q e =
+pub end-tag : (mark : Bool) (ts us vs : List PathTag) (n r : ℕ) → mark ≡ true → 0 < n → n ≤ length ts → take n us ≡ end_last (take n ts) → r ≡ n + 1 → take r vs ≡ take n us ++ path_tag ∷ [] → Ends mark ts vs n r
+end-tag mark ts us vs n r m p h e u v =
     let l : length (take n ts) ≡ n = length-take-le n ts h in
     let k : 0 < length (take n ts) = omega arith in
     let f : finished mark (take n ts) ≡ end_last (take n ts) ++ path_tag ∷ [] = finished-some mark (take n ts) k ∙ ap (λ b. cond b (end_last (take n ts) ++ path_tag ∷ []) (end_last (take n ts))) m in
     record {
-      used = omega (arith, ap length f, length-append (end_last (take n ts)) (path_tag ∷ []), length-end_last (take n ts));
-      holds = take_more_set us n path_tag q ∙ ap (λ z. z ++ path_tag ∷ []) e ∙ sym f;
+      used = omega (arith, u, l, ap length f, length-append (end_last (take n ts)) (path_tag ∷ []), length-end_last (take n ts));
+      holds = v ∙ ap (λ z. z ++ path_tag ∷ []) e ∙ sym f;
     }
 
 pub end_plain : (mark : Bool) (ts us : List PathTag) (n : ℕ) → mark ≡ false → 0 < n → n ≤ length ts → take n us ≡ end_last (take n ts) → Ends mark ts us n n

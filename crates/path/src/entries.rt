@@ -96,9 +96,7 @@ pub(crate) fn end_path(tags: &mut [PathTag], n: usize, insert_path_marker: bool)
     }
     end_last(&mut tags[..n]);
     if insert_path_marker {
-        // By hand: with `write_tag` the proof of what is held then did not close.
-        tags[n] = PathTag::PATH;
-        return n + 1;
+        return write_tag(tags, n, PathTag::PATH);
     }
     n
 }
