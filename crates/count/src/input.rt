@@ -1,6 +1,6 @@
 // The text of a sheet.
-ghost use Rattle.std.specs.Prelude.{◌≤◌};
-ghost use Rattle.count.specs.Hexadecimal.{Writes};
+ghost use Rattle.std.specs.Prelude.{ℕ, ◌≤◌};
+ghost use Rattle.count.specs.Hexadecimal.{Writes, Reads};
 
 use monoid::draw::DrawTag;
 use monoid::path::PathTag;
@@ -58,11 +58,22 @@ fn hex<const BITS: u32>(text: &str) -> Option<u32>
 
 // What a line may list.
 trait Entry: Copy {
+    // The number that an entry is.
+    ghost number: { Self → ℕ };
+
+    // The most bits that one has.
+    ghost bits: { ℕ };
+
     // The entry that a word writes, or what is wrong with it.
-    fn read(word: &str) -> Result<Self, Problem>;
+    fn read(word: &str) -> Result<Self, Problem>
+        ensures { Reads number bits word.now result };
 }
 
 impl Entry for PathTag {
+    ghost number = { λ t. t.0 };
+
+    ghost bits = { 8 };
+
     fn read(word: &str) -> Result<PathTag, Problem> {
         let byte = hex::<8>(word).ok_or(Problem::NotAByte)?;
         Ok(PathTag(byte as u8))
@@ -70,6 +81,10 @@ impl Entry for PathTag {
 }
 
 impl Entry for DrawTag {
+    ghost number = { λ t. t.0 };
+
+    ghost bits = { 32 };
+
     fn read(word: &str) -> Result<DrawTag, Problem> {
         Ok(DrawTag(hex::<32>(word).ok_or(Problem::NotAWord)?))
     }
@@ -77,6 +92,10 @@ impl Entry for DrawTag {
 
 // The pattern of a single.
 impl Entry for u32 {
+    ghost number = { λ t. t };
+
+    ghost bits = { 32 };
+
     fn read(word: &str) -> Result<u32, Problem> {
         hex::<32>(word).ok_or(Problem::NotASingle)
     }
@@ -84,6 +103,10 @@ impl Entry for u32 {
 
 // The pattern of a half.
 impl Entry for u16 {
+    ghost number = { λ t. t };
+
+    ghost bits = { 16 };
+
     fn read(word: &str) -> Result<u16, Problem> {
         let half = hex::<16>(word).ok_or(Problem::NotAHalf)?;
         Ok(half as u16)
