@@ -51,17 +51,17 @@ join_bits Joined.Bevel = 0
 join_bits Joined.Miter = 0x10000000
 join_bits Joined.Round = 0x20000000
 
--- of a cap at one end, where a square and a round one have these bits
-abbrev pub cap_bits : ℕ → ℕ → Cap → ℕ
-cap_bits square round Capped.Butt = 0
-cap_bits square round Capped.Square = square
-cap_bits square round Capped.Round = round
+-- of a cap at one end, where a butt, a square and a round one have these bits
+abbrev pub cap_bits : ℕ → ℕ → ℕ → Cap → ℕ
+cap_bits butt square round Capped.Butt = butt
+cap_bits butt square round Capped.Square = square
+cap_bits butt square round Capped.Round = round
 
 abbrev pub start_cap_bits : Cap → ℕ
-start_cap_bits = cap_bits 0x04000000 0x08000000
+start_cap_bits = cap_bits 0 0x04000000 0x08000000
 
 abbrev pub end_cap_bits : Cap → ℕ
-end_cap_bits = cap_bits 0x01000000 0x02000000
+end_cap_bits = cap_bits 0 0x01000000 0x02000000
 
 -- h is the half that the stroke's miter limit rounds to
 pub record MiterHalf (stroke : Stroke) (h : ℕ) : Type 0 where

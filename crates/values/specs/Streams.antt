@@ -1,7 +1,7 @@
 -- The streams' numbers and maxima, how much of one is used, and the last used entry. Assumes nothing.
 use Rattle.std.specs.Prelude.{ℕ, ◌≤◌, List, [], ◌∷◌, Some, None, Option}
 use Rattle.values.specs.declared.error.Stream.{Stream}
-use Rattle.values.specs.declared.room.Room.{Room}
+use Rattle.values.specs.declared.room.Room as declared
 use Rattle.values.specs.declared.error.Stream.TheVariants.{PathTags, PathData, DrawTags, DrawData, Transforms, Styles}
 
 abbrev pub stream_number : Stream → ℕ
@@ -29,6 +29,9 @@ max_entries Transforms = max_others
 max_entries Styles = max_others
 
 -- how much of a stream is used, and how many entries it has
+abbrev pub Room : Type 0
+Room = declared.Room
+
 abbrev pub room : Stream → ℕ → ℕ → Room
 room x used space = record { stream = x; used = used; space = space }
 

@@ -115,11 +115,13 @@ impl Style {
                 + join_bits(stroke.join)
                 + cap_bits(
                     stroke.start_cap,
+                    Style::FLAGS_START_CAP_BITS_BUTT,
                     Style::FLAGS_START_CAP_BITS_SQUARE,
                     Style::FLAGS_START_CAP_BITS_ROUND,
                 )
                 + cap_bits(
                     stroke.end_cap,
+                    Style::FLAGS_END_CAP_BITS_BUTT,
                     Style::FLAGS_END_CAP_BITS_SQUARE,
                     Style::FLAGS_END_CAP_BITS_ROUND,
                 )
@@ -140,12 +142,12 @@ fn join_bits(join: Join) -> u32
     }
 }
 
-// The bits of a cap at one end of a stroke, where `square` and `round` stand for those caps and a butt has none.
-fn cap_bits(cap: Cap, square: u32, round: u32) -> u32
-    ensures { result ≡ cap_bits square round cap }
+// The bits of a cap at one end of a stroke, where the caps have these.
+fn cap_bits(cap: Cap, butt: u32, square: u32, round: u32) -> u32
+    ensures { result ≡ cap_bits butt square round cap }
 {
     match cap {
-        Cap::Butt => 0,
+        Cap::Butt => butt,
         Cap::Square => square,
         Cap::Round => round,
     }
