@@ -134,14 +134,17 @@ in_y [] i d h = absurd (omega arith)
 in_y (p ∷ ps) zero d h = inl refl
 in_y (p ∷ ps) (suc i) d h = inr (in_y ps i d (omega arith))
 
--- a far point makes it long
-pub long : (p : Coordinates) (ps : List Coordinates) (i : ℕ) (d : Coordinates) → i < length ps → far (get_or ps i d) p ≡ true → false ≡ short p ps
-long p ps i d l h =
+-- a number of x and one of y that are far, of one point or of two, make it long
+pub long : (p q : Coordinates) (ps : List Coordinates) → In q.0 (xs_of ps) → In q.1 (ys_of ps) → far q p ≡ true → false ≡ short p ps
+long p q ps ix iy h =
     none_or (wide p.0 (xs_of ps)) (wide p.1 (ys_of ps))
-    (elim (one_of (apart (get_or ps i d).0 p.0) (apart (get_or ps i d).1 p.1) h) [
-      | inl e ↦ inl (is_true _ (wide_of p.0 (get_or ps i d).0 (xs_of ps) (in_x ps i d l) (held_true _ e)))
-      | inr e ↦ inr (is_true _ (wide_of p.1 (get_or ps i d).1 (ys_of ps) (in_y ps i d l) (held_true _ e)))
+    (elim (one_of (apart q.0 p.0) (apart q.1 p.1) h) [
+      | inl e ↦ inl (is_true _ (wide_of p.0 q.0 (xs_of ps) ix (held_true _ e)))
+      | inr e ↦ inr (is_true _ (wide_of p.1 q.1 (ys_of ps) iy (held_true _ e)))
     ])
+
+pub long_at : (p : Coordinates) (ps : List Coordinates) (i : ℕ) (d : Coordinates) → i < length ps → far (get_or ps i d) p ≡ true → false ≡ short p ps
+long_at p ps i d l h = long p (get_or ps i d) ps (in_x ps i d l) (in_y ps i d l) h
 
 -- ---- a line
 
@@ -193,7 +196,7 @@ alike false false h k = refl
 in_one : (m x : Float) → apart x m ≡ wide m (x ∷ [])
 in_one m x = alike (apart x m) (wide m (x ∷ [])) (wide_of m x (x ∷ []) (inl refl)) (apart_of m x)
 
-by_its_ends : (p q : Coordinates) → not (far q p) ≡ short p (q ∷ [])
+pub by_its_ends : (p q : Coordinates) → not (far q p) ≡ short p (q ∷ [])
 by_its_ends p q =
     ap (λ (z : Bool). not (z || apart q.1 p.1)) (in_one p.0 q.0) ∙ ap (λ (z : Bool). not (wide p.0 (q.0 ∷ []) || z)) (in_one p.1 q.1)
 

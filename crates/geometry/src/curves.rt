@@ -29,7 +29,8 @@ pub fn is_same_point(p: Point, q: Point) -> bool
 }
 
 // Each kind takes the end of its tangent apart by `let .. else`, the form that the project has for it: passed on as an
-// option to a method for all kinds, a line's tangent took 10.0 ns and not 7.0.
+// option to a method for all kinds, a line's tangent took 10.0 ns and not 7.0. Of quadratics and cubics the test for
+// shortness is inlined, or their points are put into memory for it.
 /// A segment past the point that it starts from.
 pub trait Curve: Copy {
     ghost segment: { Self → Segment };
@@ -98,6 +99,7 @@ impl Curve for Quad {
         Some(point_of(x, y))
     }
 
+    #[inline(always)]
     fn is_short(self, last: Point) -> bool {
         let Quad(p1, p2) = self;
         is_short(last.into(), &[p1.into(), p2.into()])
@@ -120,6 +122,7 @@ impl Curve for Cubic {
         Some(point_of(x, y))
     }
 
+    #[inline(always)]
     fn is_short(self, last: Point) -> bool {
         let Cubic(p1, p2, p3) = self;
         is_short(last.into(), &[p1.into(), p2.into(), p3.into()])

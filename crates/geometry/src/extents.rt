@@ -49,7 +49,7 @@ impl Extent {
 }
 
 /// Whether a segment from `p0` by the points `ps` is too short. Of a line the ends decide.
-#[inline]
+#[inline(always)]
 pub fn is_short(p0: (f32, f32), ps: &[(f32, f32)]) -> bool
     ensures value { result ≡ short p0 ps.now }
     ensures in_x { Extremes p0.0 (xs_of ps.now) }

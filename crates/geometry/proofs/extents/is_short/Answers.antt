@@ -7,7 +7,7 @@ use Rattle.geometry.specs.declared.extents.Extent.{Extent}
 use Rattle.geometry.specs.Tangents.{Coordinates}
 use Rattle.geometry.specs.Extents.{xs_of, ys_of, smallest, greatest}
 use Rattle.geometry.proofs.Extremes.{extremes}
-use Rattle.geometry.proofs.Stretches.{alone, long, near, xs_pass, ys_pass}
+use Rattle.geometry.proofs.Stretches.{alone, long_at, near, xs_pass, ys_pass}
 use Rattle.geometry.proofs.extents.is_short.Goals as goal
 
 pub returns-in_default : goal.returns-in_default
@@ -15,7 +15,7 @@ returns-in_default c = record { value = alone _ _ c.in_default.len_below; in_x =
 
 pub returns-then-is_far : goal.returns-then-is_far
 returns-then-is_far c = record {
-  value = long c.args.p0 c.args.ps.now (length c.args.ps.now - 1) (nan, nan) (omega (arith, c.in-len1-up.len_at_least)) (sym c.is_far.ensures ∙ c.if-is_far.true);
+  value = long_at c.args.p0 c.args.ps.now (length c.args.ps.now - 1) (nan, nan) (omega (arith, c.in-len1-up.len_at_least)) (sym c.is_far.ensures ∙ c.if-is_far.true);
   in_x = extremes _ _;
   in_y = extremes _ _;
 }
