@@ -100,7 +100,7 @@ impl PathStep for Close {
     }
 }
 
-// A step as a value of one type: data, so a match makes it one of the others.
+// A step as a value of one type: data, so a match finds its call.
 impl PathStep for Step {
     ghost step = { λ s. s };
 
@@ -108,19 +108,13 @@ impl PathStep for Step {
         Call::Take(self)
     }
 
-    fn take(
-        self,
-        path: &mut OpenPath,
-        tags: &mut [PathTag],
-        words: &mut [u32],
-        admitted: Admitted,
-    ) {
+    fn take(self, path: &mut OpenPath, tags: &mut [PathTag], words: &mut [u32], _: Admitted) {
         match self {
-            Step::Move(p) => Move(p).take(path, tags, words, admitted),
-            Step::Draw(Segment::Line(p)) => Line(p).take(path, tags, words, admitted),
-            Step::Draw(Segment::Quad(p, q)) => Quad(p, q).take(path, tags, words, admitted),
-            Step::Draw(Segment::Cubic(p, q, r)) => Cubic(p, q, r).take(path, tags, words, admitted),
-            Step::Close => Close.take(path, tags, words, admitted),
+            Step::Move(p) => path.move_to(tags, words, p),
+            Step::Draw(Segment::Line(p)) => path.line_to(tags, words, p),
+            Step::Draw(Segment::Quad(p, q)) => path.quad_to(tags, words, p, q),
+            Step::Draw(Segment::Cubic(p, q, r)) => path.cubic_to(tags, words, p, q, r),
+            Step::Close => path.close(tags, words),
         }
     }
 }
